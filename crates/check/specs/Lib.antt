@@ -1,0 +1,4 @@
+pub mod FilesLeft
+pub mod ListLeft
+pub mod Resume
+pub mod FilePhase

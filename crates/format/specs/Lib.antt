@@ -1,0 +1,7 @@
+pub mod Layout
+pub mod Numbers
+pub mod Superblock
+pub mod Inode
+pub mod Position
+pub mod Sizes
+pub mod Laws

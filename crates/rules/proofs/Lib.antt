@@ -1,0 +1,13 @@
+pub mod Owed
+pub mod Statuses
+pub mod Verdicts
+pub mod Master
+pub mod Quiet
+pub mod Finds
+pub mod Checks
+pub mod Owing
+pub mod Layouts
+pub mod NewSectors
+pub mod NewFiles
+pub mod Makes
+pub mod Promised

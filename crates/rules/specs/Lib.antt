@@ -1,0 +1,5 @@
+pub mod Calls
+pub mod Make
+pub mod Files
+pub mod Runs
+pub mod Promises

@@ -1,0 +1,5 @@
+pub mod Sums
+pub mod Names
+pub mod Walks
+pub mod Files
+pub mod Checks

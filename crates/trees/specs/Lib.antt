@@ -1,0 +1,4 @@
+pub mod Trees
+pub mod Walk
+pub mod Volume
+pub mod Laws

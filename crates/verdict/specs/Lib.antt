@@ -1,0 +1,3 @@
+pub mod Scan
+pub mod Verdict
+pub mod Sound

@@ -1,0 +1,3 @@
+pub mod Volumes
+pub mod Made
+pub mod Served

@@ -1,0 +1,82 @@
+use mathlib.Core.Path.{_≡_, refl, ap, sym, _∙_}
+use mathlib.Core.Bool.{true, false}
+use borrow.Author.Needs.{needs}
+use native.Mathlib.Omega.{arith}
+use Prim.Native.Nat.{_-_}
+use borrow.Author.Tests.{lt-leb, le-leb, ne-eqb, eq-eqb}
+use lib.Dec.{leb, eqb}
+use lib.ListN.{length}
+use Rattle.format.specs.Layout.{block-bytes}
+use Rattle.format.specs.Sizes.{lawful-sizes}
+use Rattle.fault.specs.declared.refusal.Refusal.the-variants.{BufferSize, MakeSizes}
+use Rattle.fault.specs.Refusals.{beyond, keeper}
+use Rattle.disk.specs.Medium.{ran}
+use Rattle.rules.specs.Calls.{refused}
+use Rattle.rules.specs.Make.{make-answer, make-writes, new-list}
+use Rattle.volume.proofs.Made.{unlawful, too-large, bad-buffer, accepted-make, refused-writes, refused-buffer, done-writes, done-buffer}
+use Rattle.volume.proofs.make.make.Needs as need
+
+pub returns-in-rest : need.returns-in-rest
+returns-in-rest g c =
+    let m = g .D·Disk .medium (c .args .d .now) in
+    let i = c .args .isize in
+    let f = c .args .fsize in
+    let b = length (c .args .buffer .now) in
+    let a = unlawful i f b (length (m .sectors)) (c .in-rest .ensures tt .held) in
+    record {
+      wrote = refused-writes i f (make-answer i f b (length (m .sectors))) (keeper MakeSizes) m a;
+      answer = ap refused (c .refuse .ensures) ∙ sym a;
+      buffer = refused-buffer i f (make-answer i f b (length (m .sectors))) (keeper MakeSizes) (c .args .buffer .now) a;
+    }
+
+pub returns-then-count-fsize : need.returns-then-count-fsize
+returns-then-count-fsize g c =
+    let m = g .D·Disk .medium (c .args .d .now) in
+    let i = c .args .isize in
+    let f = c .args .fsize in
+    let b = length (c .args .buffer .now) in
+    let n = c .count .ensures .is in
+    let q : leb f (length (m .sectors)) ≡ false = lt-leb f (length (m .sectors)) (omega arith) in
+    let a = too-large i f b (length (m .sectors)) (sym (c .in-Some .ensures tt .when)) q in
+    record {
+      wrote = refused-writes i f (make-answer i f b (length (m .sectors))) (beyond (f - 1)) m a;
+      answer = ap refused (c .beyond-end .ensures) ∙ sym a;
+      buffer = refused-buffer i f (make-answer i f b (length (m .sectors))) (beyond (f - 1)) (c .args .buffer .now) a;
+    }
+
+pub returns-then-buffer-ne-BLOCK-BYTES : need.returns-then-buffer-ne-BLOCK-BYTES
+returns-then-buffer-ne-BLOCK-BYTES g c =
+    let m = g .D·Disk .medium (c .args .d .now) in
+    let i = c .args .isize in
+    let f = c .args .fsize in
+    let b = length (c .args .buffer .now) in
+    let n = c .count .ensures .is in
+    let q : leb f (length (m .sectors)) ≡ true = le-leb f (length (m .sectors)) (omega arith) in
+    let e : eqb b block-bytes ≡ false = ne-eqb b block-bytes (c .if-buffer-ne-BLOCK-BYTES .taken) in
+    let a = bad-buffer i f b (length (m .sectors)) (sym (c .in-Some .ensures tt .when)) q e in
+    record {
+      wrote = refused-writes i f (make-answer i f b (length (m .sectors))) (keeper BufferSize) m a;
+      answer = ap refused (c .refuse-then-buffer-ne-BLOCK-BYTES .ensures) ∙ sym a;
+      buffer = refused-buffer i f (make-answer i f b (length (m .sectors))) (keeper BufferSize) (c .args .buffer .now) a;
+    }
+
+pub returns : need.returns
+returns g c =
+    let m = g .D·Disk .medium (c .args .d .now) in
+    let i = c .args .isize in
+    let f = c .args .fsize in
+    let b = length (c .args .buffer .now) in
+    let n = c .count .ensures .is in
+    let h = c .in-Some .ensures tt .held in
+    let q : leb f (length (m .sectors)) ≡ true = le-leb f (length (m .sectors)) (omega arith) in
+    let e : eqb b block-bytes ≡ true = eq-eqb b block-bytes (c .if-buffer-ne-BLOCK-BYTES .left) in
+    let a = accepted-make i f b (length (m .sectors)) (sym (c .in-Some .ensures tt .when)) q e in
+    let w = c .lay-volume .ensures .wrote in
+    let z = c .lay-volume .ensures .buffer in
+    let u : g .D·Disk .medium (c .lay-volume .last .d) ≡ ran (make-writes i f) m = cc in
+    let v : c .lay-volume .last .sb ≡ new-list i f .1 = cc in
+    record {
+      wrote = done-writes i f (make-answer i f b (length (m .sectors))) m (g .D·Disk .medium (c .lay-volume .last .d)) a u;
+      answer = sym a;
+      buffer = done-buffer i f (make-answer i f b (length (m .sectors))) (c .args .buffer .now) (c .lay-volume .last .sb) a v;
+    }
