@@ -4,8 +4,12 @@ use Prim.Native.Nat.{ℕ}
 use lib.ListN.{drop}
 use Rattle.fault.specs.declared.finding.Finding.{Finding}
 use Rattle.disk.specs.Medium.{Sectors}
-use Rattle.verdict.specs.Scan.{Scan, files}
+use Rattle.verdict.specs.Scan.{Scan, Log, shown, files}
 use Rattle.verdict.specs.Verdict.{findings-in, blank}
+
+-- a scan that starts at some codes, with a list that shows no finding yet
+abbrev pub fresh : List ℕ → List Finding → Scan
+fresh cs l = record { codes = cs; log = shown l 0 0 }
 
 -- the scan of all files, from no codes and no findings
 abbrev pub file-scan : Sectors → ℕ → ℕ → Scan

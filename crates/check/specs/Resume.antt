@@ -7,8 +7,7 @@ use Rattle.std.specs.declared.option.Option.{Option}
 use Rattle.std.specs.declared.option.Option.the-variants.{Some, None}
 use Rattle.disk.specs.Medium.{Sectors}
 use Rattle.format.specs.Layout.{list-room}
-use Rattle.fault.specs.declared.finding.Finding.{Finding}
-use Rattle.verdict.specs.Scan.{Scan, Log, shown, Report, free-list, report, survey, counted}
+use Rattle.verdict.specs.Scan.{Scan, Report, free-list, report, survey, counted}
 use Rattle.check.specs.declared.met.Met.{Met}
 use Rattle.check.specs.declared.met.Met.the-variants.{Address, Inode, Entry, Block, End}
 use Rattle.check.specs.declared.walk.Phase.{Phase}
@@ -87,7 +86,3 @@ next-ready (Some m) hi w = ready m hi w
 abbrev pub next-worth : Option Met → ℕ
 next-worth None = 0
 next-worth (Some m) = worth m
-
--- a scan that starts at some codes, with a list that shows no finding yet
-abbrev pub fresh : List ℕ → List Finding → Scan
-fresh cs l = record { codes = cs; log = shown l 0 0 }

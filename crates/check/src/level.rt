@@ -6,8 +6,8 @@ ghost use Rattle.format.specs.Layout.{table-width};
 ghost use Rattle.verdict.specs.Scan.{table-entry};
 use disk::disk::Disk;
 use disk::disk::get;
-use format::fields::get32;
 use format::layout::TABLE_WIDTH;
+use numbers::fields::get32;
 
 // A table, and the index of its next entry; at its end it is closed.
 #[derive(Clone, Copy)]

@@ -1,7 +1,8 @@
 // The check: one walk through files, free list and blocks.
-pub mod files;
-pub mod level;
-pub mod list;
-pub mod met;
+mod files;
+mod level;
+mod list;
+mod met;
+pub mod phase;
 pub mod run;
-pub mod walk;
+mod walk;

@@ -16,12 +16,12 @@ use disk::disk::get;
 use fault::finding::Finding;
 use fault::finding::Kind;
 use fault::place::Place;
-use format::fields::get32;
 use format::geometry::Geometry;
 use format::layout::LIST_ROOM;
 use format::layout::SUPERBLOCK;
 use format::superblock::free_entry;
 use format::superblock::nfree;
+use numbers::fields::get32;
 use tally::tally::Claim;
 use tally::tally::Tally;
 

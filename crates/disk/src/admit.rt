@@ -9,7 +9,7 @@ use fault::refusal::Refusal;
 pub const SECTOR: usize = 512;
 
 // Refuses a buffer that has not the size of a sector, then a sector beyond the end.
-pub(crate) fn admit(len: usize, s: usize, count: usize) -> Result<(), Fault>
+pub fn admit(len: usize, s: usize, count: usize) -> Result<(), Fault>
     ensures { λ r. ⌜ r ≡ answer len s count ⌝ }
 {
     if len != SECTOR {

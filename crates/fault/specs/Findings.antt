@@ -36,6 +36,6 @@ place-number (Member m) = m
 place-number (Slot i s) = s
 place-number Nowhere = 0
 
--- kind, address, inode or 0, slot or chain member
+-- what a finding prints: its kind and address, then the two numbers of its place
 abbrev pub finding-numbers : Finding → ℕ × ℕ × ℕ × ℕ
 finding-numbers f = (kind-number (f .kind), f .address, place-inode (f .place), place-number (f .place))

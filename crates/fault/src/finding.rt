@@ -13,9 +13,9 @@ pub enum Kind {
     UnknownType,
     // 4: a count above the room of a chain member
     CountTooLarge,
-    // 5: a free entry that is no data block
+    // 5: an entry of the free list outside the data blocks
     BadEntry,
-    // 6: a free entry that is claimed or listed already
+    // 6: an entry of the free list that has a claim already
     SecondEntry,
 }
 

@@ -4,7 +4,7 @@ ghost use Rattle.fault.specs.Refusals.{refusal-number};
 // The reasons for which a call is refused, in the order of their numbers.
 #[derive(Clone, Copy)]
 pub enum Refusal {
-    // 1: an inode number outside the i-list, or below 3 in a changing call
+    // 1: no inode of the i-list has this number, or a changing call names inode 1 or 2
     InodeNumber,
     // 2: a position past the last one, or a length that is not 1 to 512
     Position,

@@ -4,10 +4,10 @@ use mathlib.Core.Logic.{_⊎_, inl, inr, ⊎-elim, _≢_}
 use Prim.Native.Nat.{ℕ, _+_, _-_, _*_, _/_, _%_, _<_, _≤_}
 use native.Mathlib.Omega.{arith}
 use Rattle.std.proofs.shelf.Tests.{cases-lt}
+use Rattle.numbers.specs.Laws.{Apart}
 use Rattle.format.specs.Layout.{block-bytes, first-list-block, inodes-per-block, inode-bytes, slots}
 use Rattle.format.specs.Sizes.{inodes-of}
 use Rattle.format.specs.Inode.{block-of-inode, start-of-inode, slot-at}
-use Rattle.format.specs.Laws.{Apart}
 
 -- an inode lies in its block, a slot in its inode
 pub start-in : (i : ℕ) → start-of-inode i + inode-bytes ≤ block-bytes

@@ -3,8 +3,8 @@ use mathlib.Core.List.{List}
 use mathlib.Core.Bool.{Bool, true, false, cond}
 use Prim.Native.Nat.{ℕ, _+_, _-_, _*_, _/_, _%_}
 use lib.Dec.{eqb}
+use Rattle.numbers.specs.Numbers.{num, put-num}
 use Rattle.format.specs.Layout.{first-list-block, inodes-per-block, inode-bytes}
-use Rattle.format.specs.Numbers.{num, put-num}
 use Rattle.format.specs.declared.inode.InodeType.{InodeType}
 use Rattle.format.specs.declared.inode.InodeType.the-variants.{Unused, Regular, Directory, Special, Unknown}
 

@@ -1,5 +1,4 @@
 pub mod Layout
-pub mod Numbers
 pub mod Superblock
 pub mod Inode
 pub mod Position

@@ -4,7 +4,7 @@ use mathlib.Core.Bool.{Bool, true, cond}
 use Prim.Native.Nat.{ℕ, _+_, _*_}
 use lib.ListN.{getD, set}
 use lib.Dec.{eqb}
-use Rattle.format.specs.Numbers.{num, put-num}
+use Rattle.numbers.specs.Numbers.{num, put-num}
 
 -- where the fields begin
 abbrev pub at-isize : ℕ

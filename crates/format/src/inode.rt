@@ -1,18 +1,17 @@
 ghost use mathlib.Core.Path.{_≡_};
 ghost use Prim.Native.Nat.{ℕ, _+_, _*_, _^_, _<_, _≤_};
 ghost use lib.ListN.{length};
+ghost use Rattle.numbers.specs.Numbers.{put-num};
 ghost use Rattle.format.specs.Layout.{block-bytes, slots};
-ghost use Rattle.format.specs.Numbers.{put-num};
-ghost use Rattle.format.specs.Inode.{block-of-inode, start-of-inode, mode-of, size-of, slot-at, address-of, type-bits, type-rule, claims-blocks};
-use crate::fields::get16;
-use crate::fields::get24;
-use crate::fields::get32;
-use crate::fields::put16;
-use crate::fields::put24;
-use crate::fields::put32;
+ghost use Rattle.format.specs.Inode.{block-of-inode, start-of-inode, mode-of, slot-at, address-of, type-bits, type-rule};
 use crate::layout::FIRST_LIST_BLOCK;
 use crate::layout::INODE_BYTES;
 use crate::layout::INODES_PER_BLOCK;
+use numbers::fields::get16;
+use numbers::fields::get24;
+use numbers::fields::put16;
+use numbers::fields::put24;
+use numbers::fields::put32;
 
 // Where the fields of an inode begin.
 pub const AT_MODE: usize = 0;
@@ -31,18 +30,6 @@ pub enum InodeType {
     Directory,
     Special,
     Unknown,
-}
-
-impl InodeType {
-    // Only regular files and directories claim blocks.
-    pub fn claims_blocks(self) -> bool
-        ensures { λ r. ⌜ r ≡ claims-blocks self ⌝ }
-    {
-        match self {
-            InodeType::Regular | InodeType::Directory => true,
-            InodeType::Unused | InodeType::Special | InodeType::Unknown => false,
-        }
-    }
 }
 
 // The type that a mode gives.
@@ -67,7 +54,7 @@ pub fn block_of(inode: u32) -> u32
 }
 
 // The byte of its block at which an inode begins.
-pub fn start_of(inode: u32) -> usize
+fn start_of(inode: u32) -> usize
     requires numbered { ⌜ 1 ≤ inode ⌝ }
     ensures { λ r. ⌜ r ≡ start-of-inode inode ⌝ }
 {
@@ -80,14 +67,6 @@ pub fn mode(block: &[u8], inode: u32) -> u16
     ensures { λ r. ⌜ r ≡ mode-of inode (now (block .entry)) ⌝ }
 {
     get16(block, start_of(inode) + AT_MODE)
-}
-
-pub fn file_size(block: &[u8], inode: u32) -> u32
-    requires sized { ⌜ length (now block) ≡ block-bytes ⌝ }
-    requires numbered { ⌜ 1 ≤ inode ⌝ }
-    ensures { λ r. ⌜ r ≡ size-of inode (now (block .entry)) ⌝ }
-{
-    get32(block, start_of(inode) + AT_SIZE)
 }
 
 // The address in a slot.

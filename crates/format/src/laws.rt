@@ -1,11 +1,4 @@
-ghost use Rattle.format.specs.Laws.{Field-law, Split-law, Split-examples};
-
-// What is put into bytes reads back, and what lies apart from it stays.
-pub fn fields_stand() -> u8
-    ensures { λ _. ⌜ Field-law ⌝ }
-{
-    0
-}
+ghost use Rattle.format.specs.Laws.{Split-law, Split-examples};
 
 // A position and its slot and indices determine each other; and the worked examples.
 pub fn positions_stand() -> u8

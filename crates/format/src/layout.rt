@@ -20,10 +20,8 @@ pub const SLOTS: u32 = 13;
 
 pub const DIRECT_SLOTS: u32 = 10;
 
-// The entries of the free list that the superblock or a chain member holds, and the inode numbers that the superblock holds.
+// The entries of the free list that the superblock or a chain member holds.
 pub const LIST_ROOM: u32 = 50;
-
-pub const INODE_ROOM: u32 = 100;
 
 // The sizes that a volume may have.
 pub const LEAST_ISIZE: u32 = 3;

@@ -1,5 +1,4 @@
-// The bytes of a volume: numbers, sizes, superblock, inodes, positions.
-pub mod fields;
+// The bytes of a volume: sizes, superblock, inodes, positions.
 pub mod geometry;
 pub mod inode;
 pub mod laws;

@@ -1,14 +1,14 @@
 ghost use mathlib.Core.Path.{_≡_};
 ghost use Prim.Native.Nat.{ℕ, _+_, _*_, _<_, _≤_};
 ghost use lib.ListN.{length, getD, set};
-ghost use Rattle.format.specs.Layout.{block-bytes, list-room, inode-room};
-ghost use Rattle.format.specs.Numbers.{num, put-num};
-ghost use Rattle.format.specs.Superblock.{at-isize, at-fsize, at-nfree, free-at, at-ninode, inode-at, at-flock, at-tfree, at-tinode, at-magic, at-type};
-ghost use Rattle.format.specs.Superblock.{isize-of, fsize-of, nfree-of, free-of, ninode-of, inode-of, flock-of, tfree-of, tinode-of, magic-of, type-of, type-fits};
-use crate::fields::get16;
-use crate::fields::get32;
-use crate::fields::put16;
-use crate::fields::put32;
+ghost use Rattle.numbers.specs.Numbers.{num, put-num};
+ghost use Rattle.format.specs.Layout.{block-bytes, list-room};
+ghost use Rattle.format.specs.Superblock.{at-nfree, free-at, at-flock, at-tfree};
+ghost use Rattle.format.specs.Superblock.{isize-of, fsize-of, nfree-of, free-of, flock-of, tfree-of, magic-of, type-of, type-fits};
+use numbers::fields::get16;
+use numbers::fields::get32;
+use numbers::fields::put16;
+use numbers::fields::put32;
 
 // Where the fields of the superblock begin.
 pub const AT_ISIZE: usize = 0;
@@ -18,10 +18,6 @@ pub const AT_FSIZE: usize = 2;
 pub const AT_NFREE: usize = 6;
 
 pub const AT_FREE: usize = 8;
-
-pub const AT_NINODE: usize = 208;
-
-pub const AT_INODE: usize = 210;
 
 pub const AT_FLOCK: usize = 410;
 
@@ -79,31 +75,6 @@ pub fn tfree(b: &[u8]) -> u32
     get32(b, AT_TFREE)
 }
 
-// How many numbers of unused inodes the superblock holds.
-pub fn ninode(b: &[u8]) -> u16
-    requires { ⌜ length (now b) ≡ block-bytes ⌝ }
-    ensures { λ r. ⌜ r ≡ ninode-of (now (b .entry)) ⌝ }
-{
-    get16(b, AT_NINODE)
-}
-
-// Number k of the unused inodes.
-pub fn inode_entry(b: &[u8], k: usize) -> u16
-    requires sized { ⌜ length (now b) ≡ block-bytes ⌝ }
-    requires within { ⌜ k < inode-room ⌝ }
-    ensures { λ r. ⌜ r ≡ inode-of k (now (b .entry)) ⌝ }
-{
-    get16(b, AT_INODE + 2 * k)
-}
-
-// How many inodes are unused in all.
-pub fn tinode(b: &[u8]) -> u16
-    requires { ⌜ length (now b) ≡ block-bytes ⌝ }
-    ensures { λ r. ⌜ r ≡ tinode-of (now (b .entry)) ⌝ }
-{
-    get16(b, AT_TINODE)
-}
-
 // The lock of the free list.
 pub fn flock(b: &[u8]) -> u8
     requires { ⌜ length (now b) ≡ block-bytes ⌝ }
@@ -113,7 +84,7 @@ pub fn flock(b: &[u8]) -> u8
 }
 
 // The magic number, if it is one.
-pub fn magic(b: &[u8]) -> u32
+fn magic(b: &[u8]) -> u32
     requires { ⌜ length (now b) ≡ block-bytes ⌝ }
     ensures { λ r. ⌜ r ≡ magic-of (now (b .entry)) ⌝ }
 {
@@ -121,7 +92,7 @@ pub fn magic(b: &[u8]) -> u32
 }
 
 // The type, which is read only under the magic number.
-pub fn volume_type(b: &[u8]) -> u32
+fn volume_type(b: &[u8]) -> u32
     requires { ⌜ length (now b) ≡ block-bytes ⌝ }
     ensures { λ r. ⌜ r ≡ type-of (now (b .entry)) ⌝ }
 {
@@ -138,20 +109,6 @@ pub fn type_fits(b: &[u8]) -> bool
     } else {
         true
     }
-}
-
-pub fn set_isize(b: &mut [u8], v: u16)
-    requires { ⌜ length (now b) ≡ block-bytes ⌝ }
-    ensures { λ _. ⌜ now (b .exit) ≡ put-num 2 at-isize v (now (b .entry)) ⌝ }
-{
-    put16(b, AT_ISIZE, v);
-}
-
-pub fn set_fsize(b: &mut [u8], v: u32)
-    requires { ⌜ length (now b) ≡ block-bytes ⌝ }
-    ensures { λ _. ⌜ now (b .exit) ≡ put-num 4 at-fsize v (now (b .entry)) ⌝ }
-{
-    put32(b, AT_FSIZE, v);
 }
 
 pub fn set_nfree(b: &mut [u8], v: u16)
@@ -176,45 +133,9 @@ pub fn set_tfree(b: &mut [u8], v: u32)
     put32(b, AT_TFREE, v);
 }
 
-pub fn set_ninode(b: &mut [u8], v: u16)
-    requires { ⌜ length (now b) ≡ block-bytes ⌝ }
-    ensures { λ _. ⌜ now (b .exit) ≡ put-num 2 at-ninode v (now (b .entry)) ⌝ }
-{
-    put16(b, AT_NINODE, v);
-}
-
-pub fn set_inode_entry(b: &mut [u8], k: usize, v: u16)
-    requires sized { ⌜ length (now b) ≡ block-bytes ⌝ }
-    requires within { ⌜ k < inode-room ⌝ }
-    ensures { λ _. ⌜ now (b .exit) ≡ put-num 2 (inode-at k) v (now (b .entry)) ⌝ }
-{
-    put16(b, AT_INODE + 2 * k, v);
-}
-
-pub fn set_tinode(b: &mut [u8], v: u16)
-    requires { ⌜ length (now b) ≡ block-bytes ⌝ }
-    ensures { λ _. ⌜ now (b .exit) ≡ put-num 2 at-tinode v (now (b .entry)) ⌝ }
-{
-    put16(b, AT_TINODE, v);
-}
-
 pub fn set_flock(b: &mut [u8], v: u8)
     requires { ⌜ length (now b) ≡ block-bytes ⌝ }
     ensures { λ _. ⌜ now (b .exit) ≡ set (now (b .entry)) at-flock v ⌝ }
 {
     b[AT_FLOCK] = v;
-}
-
-pub fn set_magic(b: &mut [u8], v: u32)
-    requires { ⌜ length (now b) ≡ block-bytes ⌝ }
-    ensures { λ _. ⌜ now (b .exit) ≡ put-num 4 at-magic v (now (b .entry)) ⌝ }
-{
-    put32(b, AT_MAGIC, v);
-}
-
-pub fn set_type(b: &mut [u8], v: u32)
-    requires { ⌜ length (now b) ≡ block-bytes ⌝ }
-    ensures { λ _. ⌜ now (b .exit) ≡ put-num 4 at-type v (now (b .entry)) ⌝ }
-{
-    put32(b, AT_TYPE, v);
 }

@@ -10,10 +10,10 @@ use lib.ListN.{length, getD, set, take, drop, replicate, length-set, length-appe
 use lib.Seq.{drop-drop}
 use Rattle.std.proofs.shelf.Lists.{take-replicate, drop-replicate}
 use Rattle.disk.specs.Medium.{Medium, Write, ran}
+use Rattle.numbers.specs.Numbers.{num, put-num, nums}
+use Rattle.numbers.proofs.Numbers.{put-length}
 use Rattle.format.specs.Layout.{block-bytes, list-room}
-use Rattle.format.specs.Numbers.{num, put-num, nums}
 use Rattle.format.specs.Superblock.{at-nfree, at-free, at-tfree, at-flock, nfree-of, free-at, tfree-of, flock-of}
-use Rattle.format.proofs.Numbers.{put-length}
 use Rattle.freelist.proofs.Gives.{length-zeros, length-entries}
 use Rattle.freelist.proofs.Takings.{length-put-bytes}
 use Rattle.freelist.specs.Bytes.{zeros, member-bytes, at-entries, entries-bytes, superblock-entries, member-entries, member-count, put-bytes, lowered, loaded, grounded, give-index, with-entry, raised, give-bytes}
@@ -46,10 +46,10 @@ member-laid s x h =
     let c = ap (λ (y : List ℕ). drop entries-bytes y) b ∙ drop-replicate {X = ℕ} entries-bytes (block-bytes - 4) 0 in
     cc
 
-pub laid-length : (s b x : List ℕ) → b ≡ superblock-entries s → length s ≡ block-bytes → x ≡ put-num 4 0 list-room (zeros block-bytes) → length (putMid at-entries entries-bytes x b) ≡ block-bytes
-laid-length s b x h ls e =
+pub laid-length : (s b x : List ℕ) (v : ℕ) → b ≡ superblock-entries s → length s ≡ block-bytes → x ≡ put-num 4 0 v (zeros block-bytes) → length (putMid at-entries entries-bytes x b) ≡ block-bytes
+laid-length s b x v h ls e =
     let lb : length b ≡ entries-bytes = ap length h ∙ length-entries s ls in
-    let lx : length x ≡ block-bytes = ap length e ∙ put-length 4 0 list-room (zeros block-bytes) ∙ length-zeros block-bytes in
+    let lx : length x ≡ block-bytes = ap length e ∙ put-length 4 0 v (zeros block-bytes) ∙ length-zeros block-bytes in
     mid-length at-entries entries-bytes b x lb (omega arith) ∙ lx
 
 -- A GIVE

@@ -10,11 +10,11 @@ use lib.ListN.{length, getD, set, take, drop, replicate, length-set, length-appe
 use lib.Dec.{eqb}
 use Rattle.std.proofs.shelf.Tests.{cases-eq, cases-lt, cases-bool}
 use Rattle.std.proofs.shelf.Lists.{getD-append-left, getD-append-add, getD-take, getD-drop}
+use Rattle.numbers.specs.Numbers.{num, put-num, nums}
+use Rattle.numbers.specs.Laws.{Apart}
+use Rattle.numbers.proofs.Numbers.{put-length, num-put, num-apart, num-append-left, nums-apart, nums-put, nums-ext, apart}
 use Rattle.format.specs.Layout.{block-bytes, list-room}
-use Rattle.format.specs.Numbers.{num, put-num, nums}
-use Rattle.format.specs.Laws.{Apart}
 use Rattle.format.specs.Superblock.{at-nfree, at-free, at-tfree, at-flock, nfree-of, free-at, free-of, tfree-of}
-use Rattle.format.proofs.Numbers.{put-length, num-put, num-apart, num-append-left, nums-apart, nums-put, nums-ext, apart}
 use Rattle.freelist.specs.Stack.{Page, Free, given, given-page, opened, pushed, most-total}
 use Rattle.freelist.specs.Bytes.{zeros, member-page, member-bytes, member-count, at-entries, entries-bytes, superblock-entries, free-list-of, grounded, give-index, with-entry, raised, give-bytes, give-writes}
 

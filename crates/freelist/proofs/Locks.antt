@@ -15,10 +15,10 @@ use Rattle.std.specs.declared.result.Result.the-variants.{Ok, Err}
 use Rattle.fault.specs.declared.fault.ListFault.{ListFault}
 use Rattle.fault.specs.declared.fault.ListFault.the-variants.{Bad, Empty}
 use Rattle.disk.specs.Medium.{Sectors, Medium, ran}
+use Rattle.numbers.specs.Numbers.{num, put-num, nums}
+use Rattle.numbers.proofs.Numbers.{put-length, num-set, put-set, apart}
 use Rattle.format.specs.Layout.{block-bytes, list-room}
-use Rattle.format.specs.Numbers.{num, put-num, nums}
 use Rattle.format.specs.Superblock.{at-nfree, at-free, at-tfree, at-flock, nfree-of, free-at, free-of, tfree-of, flock-of}
-use Rattle.format.proofs.Numbers.{put-length, num-set, put-set, apart}
 use Rattle.freelist.specs.Stack.{is-data, most-total}
 use Rattle.freelist.specs.Bytes.{Taken, took, refused, member-bytes, member-count, member-entries, superblock-entries, at-entries, entries-bytes, put-bytes, grounded, give-index, with-entry, raised, give-bytes, give-writes, lowered, loaded, load-bytes, take-first-bytes, take-entry-bytes, take-bytes}
 use Rattle.freelist.proofs.Gives.{index-low, grounded-none, grounded-some, writes-full, writes-none}

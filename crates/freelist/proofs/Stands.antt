@@ -16,11 +16,11 @@ use Rattle.fault.specs.declared.fault.ListFault.{ListFault}
 use Rattle.fault.specs.declared.fault.ListFault.the-variants.{Bad, Empty}
 use Rattle.disk.specs.Medium.{Sectors, Sized, Write, Medium, after, ran}
 use Rattle.disk.proofs.Writes.{length-after, after-append, Spares, Sized-writes}
+use Rattle.numbers.specs.Numbers.{num, put-num, nums}
+use Rattle.numbers.specs.Laws.{Apart}
+use Rattle.numbers.proofs.Numbers.{put-length, num-put, num-apart, num-set, num-ext, byte-apart, length-nums, getD-nums, nums-ext, apart}
 use Rattle.format.specs.Layout.{block-bytes, list-room}
-use Rattle.format.specs.Numbers.{num, put-num, nums}
-use Rattle.format.specs.Laws.{Apart}
 use Rattle.format.specs.Superblock.{at-nfree, at-free, at-tfree, at-flock, nfree-of, free-at, free-of, tfree-of, flock-of}
-use Rattle.format.proofs.Numbers.{put-length, num-put, num-apart, num-set, num-ext, byte-apart, length-nums, getD-nums, nums-ext, apart}
 use Rattle.freelist.specs.Stack.{Page, Free, Taking, is-data, Lists, Takes, taken, given, Out, most-total}
 use Rattle.freelist.specs.Stack.{took as taking, refused as no-taking}
 use Rattle.freelist.specs.Chain.{chain}

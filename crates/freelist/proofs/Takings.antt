@@ -12,11 +12,11 @@ use Rattle.std.proofs.shelf.Lists.{getD-append-left, getD-append-right, getD-ap
 use Rattle.fault.specs.declared.fault.ListFault.{ListFault}
 use Rattle.fault.specs.declared.fault.ListFault.the-variants.{Bad, Empty}
 use Rattle.disk.specs.Medium.{Sectors, Sized}
+use Rattle.numbers.specs.Numbers.{num, put-num, nums}
+use Rattle.numbers.specs.Laws.{Apart}
+use Rattle.numbers.proofs.Numbers.{put-length, num-put, num-apart, byte-apart, num-ext, nums-apart, nums-ext, getD-nums, apart}
 use Rattle.format.specs.Layout.{block-bytes, list-room}
-use Rattle.format.specs.Numbers.{num, put-num, nums}
-use Rattle.format.specs.Laws.{Apart}
 use Rattle.format.specs.Superblock.{at-nfree, at-free, at-tfree, nfree-of, free-at, free-of, tfree-of}
-use Rattle.format.proofs.Numbers.{put-length, num-put, num-apart, byte-apart, num-ext, nums-apart, nums-ext, getD-nums, apart}
 use Rattle.freelist.specs.Stack.{Page, Free, Taking, is-data, take-entry, take-first, load-member, taken}
 use Rattle.freelist.specs.Stack.{took as taking, refused as no-taking}
 use Rattle.freelist.specs.Laws.{Elsewhere, Same-elsewhere}

@@ -11,10 +11,10 @@ use Rattle.std.proofs.shelf.Tests.{lt-ltb, le-ltb, eq-eqb, ne-eqb}
 use Rattle.std.specs.declared.result.Result.{Result}
 use Rattle.fault.specs.declared.fault.ListFault.{ListFault}
 use Rattle.fault.specs.declared.fault.ListFault.the-variants.{Bad, Empty}
+use Rattle.numbers.specs.Numbers.{put-num}
 use Rattle.freelist.specs.declared.list.TakenBlock.{TakenBlock}
 use Rattle.disk.specs.Medium.{Sectors}
 use Rattle.format.specs.Layout.{list-room}
-use Rattle.format.specs.Numbers.{put-num}
 use Rattle.format.specs.Superblock.{at-nfree, nfree-of, free-of}
 use Rattle.freelist.specs.Stack.{is-data}
 use Rattle.freelist.specs.Answers.{take-answer, take-left}

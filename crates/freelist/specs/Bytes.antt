@@ -8,8 +8,8 @@ use lib.Dec.{eqb, ltb}
 use Rattle.fault.specs.declared.fault.ListFault.{ListFault}
 use Rattle.fault.specs.declared.fault.ListFault.the-variants.{Bad, Empty}
 use Rattle.disk.specs.Medium.{Sectors, Write}
+use Rattle.numbers.specs.Numbers.{num, put-num, nums}
 use Rattle.format.specs.Layout.{block-bytes, list-room}
-use Rattle.format.specs.Numbers.{num, put-num, nums}
 use Rattle.format.specs.Superblock.{at-nfree, at-free, at-tfree, at-flock, nfree-of, free-at, free-of, tfree-of}
 use Rattle.freelist.specs.Stack.{Page, Free, Taking, is-data, most-total}
 use Rattle.freelist.specs.Stack.{took as taking, refused as no-taking}

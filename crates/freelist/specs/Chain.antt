@@ -2,8 +2,8 @@
 use mathlib.Core.List.{List}
 use Prim.Native.Nat.{ℕ}
 use lib.Dec.{lit<}
+use Rattle.numbers.proofs.Numbers.{length-nums}
 use Rattle.format.specs.Layout.{list-room}
-use Rattle.format.proofs.Numbers.{length-nums}
 use Rattle.freelist.specs.Stack.{Chain}
 use Rattle.freelist.specs.Bytes.{member-page, at-entries}
 

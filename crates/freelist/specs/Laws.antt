@@ -9,7 +9,7 @@ use lib.Dec.{eqb}
 use Rattle.std.specs.shelf.Lists.{All}
 use Rattle.fault.specs.declared.fault.ListFault.the-variants.{Empty}
 use Rattle.disk.specs.Medium.{Sectors, Sized, Write, after}
-use Rattle.format.specs.Laws.{Apart}
+use Rattle.numbers.specs.Laws.{Apart}
 use Rattle.format.specs.Layout.{block-bytes, list-room}
 use Rattle.format.specs.Superblock.{at-nfree, at-tfree, at-flock, tfree-of, flock-of}
 use Rattle.freelist.specs.Stack.{Page, Free, Chain, is-data, Taking, Listed, Lists, Takes, taken, given, Out, most-total}

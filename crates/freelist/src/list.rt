@@ -13,8 +13,6 @@ use disk::disk::Disk;
 use disk::disk::get;
 use disk::disk::put;
 use fault::fault::ListFault;
-use format::fields::get32;
-use format::fields::put32;
 use format::geometry::Geometry;
 use format::superblock::AT_FLOCK;
 use format::superblock::AT_FREE;
@@ -25,6 +23,8 @@ use format::superblock::set_free_entry;
 use format::superblock::set_nfree;
 use format::superblock::set_tfree;
 use format::superblock::tfree;
+use numbers::fields::get32;
+use numbers::fields::put32;
 
 // The bytes of a block, the entries that one part of the list holds, and the bytes that these take.
 const BLOCK: usize = 512;

@@ -23,35 +23,35 @@ use Rattle.trees.specs.Trees.{count}
 use Rattle.trees.specs.Walk.{Data}
 use Rattle.verdict.specs.Sound.{claims-on, One-claim-each}
 use Rattle.verdict.specs.Verdict.{verdict-of}
-use Rattle.rules.specs.Calls.{Answer, sized, judged, done, refused, accepted, and-then, same-sizes, fits-held, may-check, may-clear, if-unlocked, if-status-0, check-answer, clear-answer}
+use Rattle.rules.specs.Calls.{done, refused, accepted, and-then, same-sizes, fits-held, may-clear, if-unlocked, if-status-0, check-answer, clear-answer}
 use Rattle.rules.specs.Runs.{check, clear, Point}
-use Rattle.rules.specs.Promises.{status, Right-verdict, Right-clear, Served}
+use Rattle.rules.specs.Promises.{status, Right-verdict, Judged, Right-clear, Served}
 use Rattle.rules.proofs.Owed.{Safe, Whole, Kept, Owes}
 use Rattle.verdict.proofs.Sounds as verdict
-use Rattle.rules.proofs.Verdicts.{no-findings, nothing-missing, all-counted}
-use Rattle.rules.proofs.Statuses.{safe-status, whole-status}
+use Rattle.rules.proofs.Statuses.{safe-status, whole-status, safe-findings, safe-free, whole-missing, safe-counted}
 use Rattle.rules.proofs.Quiet.{quiet-owes, found-check, found-clear, unlocked-passes, served}
 
 -- CHECK
-right-verdict : (x : Point) (room : ℕ) → Kept x → Right-verdict x (judged (verdict-of (x .disk .sectors) (x .sizes .isize) (x .sizes .fsize) room))
+right-verdict : (x : Point) (room : ℕ) → Kept x → Right-verdict x (verdict-of (x .disk .sectors) (x .sizes .isize) (x .sizes .fsize) room)
 right-verdict x room k =
     let S = x .disk .sectors in
     let z = x .sizes in
-    let s = safe-status S z (k .safe) room in (
-      no-findings S (z .isize) (z .fsize) room s,
-      s,
-      (λ u. let w = whole-status S z (k .whole u) room in (w, nothing-missing S (z .isize) (z .fsize) room w)),
-      all-counted S (z .isize) (z .fsize) room,
-    )
+    record {
+      nothing-found = safe-findings S z (k .safe) room;
+      status-0-or-8 = safe-status S z (k .safe) room;
+      nothing-missing = λ u. (whole-status S z (k .whole u) room, whole-missing S z (k .whole u) room);
+      free-as-stated = safe-free S z (k .safe) room ∙ sym (k .safe .counted);
+      all-counted = safe-counted S z (k .safe) room;
+    }
 
 pub check-owes : (held : Sizes) (n room : ℕ) → Owes (check held n room)
 check-owes held n room =
     quiet-owes (check held n room) (λ S. refl) (λ B r. refl) (λ S z s e. absurd (false≢true e))
     (λ x k.
     let S = x .disk .sectors in
-    subst (λ (f : Result Sizes Fault). Served x held n (check-answer (x .disk .sectors) room f) (Right-verdict x (check-answer (x .disk .sectors) room f)))
+    subst (λ (f : Result Sizes Fault). Served x held n (check-answer (x .disk .sectors) room f) (Judged x (check-answer (x .disk .sectors) room f)))
     (sym (found-check S (x .sizes) held n (k .safe .found)))
-    (served x held n (check-answer S room) (Right-verdict x) (λ f. refl) (right-verdict x room k)))
+    (served x held n (check-answer S room) (Judged x) (λ f. refl) (right-verdict x room k)))
 
 -- CLEAR
 -- status 0 shows that no data block is missing

@@ -1,9 +1,6 @@
 -- What find and close owe.
 use mathlib.Core.Path.{refl, ap}
-use Rattle.std.specs.declared.result.Result.{Result}
 use Rattle.std.proofs.shelf.Tests.{false≢true}
-use Rattle.fault.specs.declared.fault.Fault.{Fault}
-use Rattle.format.specs.Sizes.{Sizes}
 use Rattle.rules.specs.Calls.{find-answer}
 use Rattle.rules.specs.Runs.{find, close}
 use Rattle.rules.proofs.Owed.{Owes}

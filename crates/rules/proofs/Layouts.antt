@@ -1,20 +1,19 @@
 -- The bytes that make writes: the first block of the i-list, the root's block and the bare superblock.
-use mathlib.Core.Path.{_≡_, refl, sym, ap, subst, _∙_}
-use mathlib.Core.Logic.{_⊎_, inl, inr, ⊎-elim, _≢_}
-use mathlib.Core.List.{List, [], _∷_}
-use mathlib.Core.Bool.{Bool, true, false, cond}
-use Prim.Native.Nat.{ℕ, zero, suc, _+_, _-_, _*_, _<_, _≤_}
+use mathlib.Core.Path.{_≡_, refl, _∙_}
+use mathlib.Core.Logic.{inl, inr, ⊎-elim}
+use mathlib.Core.List.{List}
+use Prim.Native.Nat.{ℕ, zero, suc, _+_, _-_, _<_, _≤_}
 use native.Mathlib.Omega.{arith}
-use lib.ListN.{length, getD, set, replicate, length-set}
+use lib.ListN.{length, getD, length-set}
 use lib.Seq.{getD-set-other}
 use Rattle.std.proofs.shelf.Lists.{length-replicate}
-use Rattle.format.specs.Layout.{block-bytes, inode-bytes, slots}
-use Rattle.format.specs.Numbers.{num, put-num}
-use Rattle.format.specs.Laws.{Apart}
+use Rattle.numbers.specs.Numbers.{num, put-num}
+use Rattle.numbers.specs.Laws.{Apart}
+use Rattle.numbers.proofs.Numbers.{put-length, num-put, num-apart, byte-apart, num-zeros, byte-zeros, apart}
+use Rattle.format.specs.Layout.{block-bytes, inode-bytes}
 use Rattle.format.specs.Superblock.{at-isize, at-fsize, at-tinode, at-magic, at-type, isize-of, fsize-of, magic-of, type-of, magic}
 use Rattle.format.specs.Inode.{start-of-inode, slot-at, mode-of, size-of, address-of}
 use Rattle.format.specs.Sizes.{inodes-of}
-use Rattle.format.proofs.Numbers.{put-length, num-put, num-apart, byte-apart, num-zeros, byte-zeros, apart}
 use Rattle.freelist.specs.Bytes.{zeros}
 use Rattle.rules.specs.Make.{root, root-mode, root-size, root-list-block, list-block, root-block, bare-superblock}
 

@@ -1,6 +1,5 @@
 pub mod Owed
 pub mod Statuses
-pub mod Verdicts
 pub mod Master
 pub mod Quiet
 pub mod Finds

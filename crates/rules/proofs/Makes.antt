@@ -1,40 +1,36 @@
 -- What make owes: a newly made volume is whole, and its files are the first book's.
 use mathlib.Core.Path.{_≡_, refl, sym, ap, subst, _∙_}
-use mathlib.Core.Logic.{_⊎_, inl, inr, ⊎-elim, _≢_}
-use mathlib.Core.List.{List, [], _∷_, _++_}
-use mathlib.Core.Bool.{Bool, true, false, cond, _&&_}
-use Prim.Native.Nat.{ℕ, zero, suc, _+_, _-_, _*_, _^_, _<_, _≤_}
+use mathlib.Core.Logic.{inl, inr, ⊎-elim}
+use mathlib.Core.List.{List, [], _∷_}
+use mathlib.Core.Bool.{Bool, true, false, cond}
+use Prim.Native.Nat.{ℕ, zero, suc, _+_, _-_, _<_, _≤_}
 use native.Mathlib.Omega.{arith}
 use lib.Dec.{eqb, ltb, leb}
 use lib.ListN.{length, getD}
-use Rattle.std.specs.declared.result.Result.{Result}
 use Rattle.std.specs.declared.result.Result.the-variants.{Ok, Err}
-use Rattle.std.specs.shelf.Lists.{All}
-use Rattle.std.proofs.shelf.Tests.{cases-eq, cases-bool, leb-true, ltb-true, lt-ltb, le-leb, eq-eqb, and-from, cond-true, false≢true}
-use Rattle.fault.specs.declared.fault.Fault.{Fault}
-use Rattle.fault.specs.declared.refusal.Refusal.the-variants.{BufferSize, MakeSizes, NoVolume}
+use Rattle.std.proofs.shelf.Tests.{cases-eq, leb-true, ltb-true, lt-ltb, le-leb, eq-eqb, and-from, cond-true, false≢true}
+use Rattle.fault.specs.declared.refusal.Refusal.the-variants.{MakeSizes, NoVolume}
 use Rattle.fault.specs.Refusals.{beyond, keeper}
-use Rattle.disk.specs.Medium.{Sectors, Sized, after}
-use Rattle.format.specs.Laws.{Apart}
+use Rattle.disk.specs.Medium.{Sectors, after}
+use Rattle.numbers.specs.Numbers.{num}
+use Rattle.numbers.specs.Laws.{Apart}
+use Rattle.numbers.proofs.Numbers.{num-ext, apart}
 use Rattle.format.specs.Layout.{block-bytes, superblock, list-room}
-use Rattle.format.specs.Numbers.{num}
 use Rattle.format.specs.Superblock.{at-isize, at-fsize, at-nfree, at-tfree, at-flock, at-magic, at-type, isize-of, fsize-of, nfree-of, tfree-of, flock-of, magic-of, type-of, magic, type-fits}
 use Rattle.format.specs.Sizes.{Sizes, Bounds, lawful-sizes, least-isize, most-isize, most-fsize}
-use Rattle.format.proofs.Numbers.{num-ext, apart}
-use Rattle.freelist.specs.Stack.{Lists, is-data, Out, most-total}
-use Rattle.freelist.specs.Bytes.{free-list-of, entries-bytes, unclaimed, emptied, gave-all, give-bytes}
+use Rattle.freelist.specs.Stack.{Lists, Out}
+use Rattle.freelist.specs.Bytes.{free-list-of, entries-bytes, unclaimed, emptied, gave-all}
 use Rattle.freelist.specs.Chain.{chain}
-use Rattle.freelist.specs.Laws.{Distinct, Among, Lists-blocks, Elsewhere, Relists}
-use Rattle.freelist.proofs.Gives.{give-count, length-give}
+use Rattle.freelist.specs.Laws.{Distinct, Among, Relists}
+use Rattle.freelist.proofs.Gives.{give-count}
 use Rattle.freelist.proofs.Stands.{relisting-lists-exactly, emptied-count, length-emptied, gave-all-fits}
 use Rattle.trees.specs.Trees.{hit, count}
 use Rattle.trees.specs.Walk.{Data}
 use Rattle.trees.proofs.Sums.{hit-same, hit-other, hit-le, hit-eq}
-use Rattle.verdict.specs.Sound.{claims-on, Lawful}
-use Rattle.rules.specs.Calls.{Answer, done, refused, is-volume, sizes-in, lookup}
-use Rattle.rules.specs.Make.{root-size, bare-superblock, new-list, make-writes, make-answer}
-use Rattle.rules.specs.Files.{first-book}
-use Rattle.rules.proofs.Owed.{Safe, Whole, Booked, Make-owes}
+use Rattle.verdict.specs.Sound.{Lawful}
+use Rattle.rules.specs.Calls.{done, refused, is-volume, sizes-in, lookup}
+use Rattle.rules.specs.Make.{bare-superblock, new-list, make-writes}
+use Rattle.rules.proofs.Owed.{Safe, Whole, Make-owes}
 use Rattle.rules.proofs.Layouts.{length-bare, bare-isize, bare-fsize, bare-magic, bare-type}
 use Rattle.rules.proofs.NewSectors.{Newly, newly, given-blocks, new-superblock, given-data, given-distinct, given-above, given-every}
 use Rattle.rules.proofs.NewFiles.{new-types, new-claims, new-sizes, new-tails, new-book}
@@ -240,7 +236,9 @@ pub make-owes : Make-owes
 make-owes z S sized e =
     let d = is-done (lawful-sizes (z .isize) (z .fsize)) (leb (z .fsize) (length S)) (z .fsize - 1) e in
     let b = and-lawful (z .isize) (z .fsize) (d .0) in
-    let n = newly (z .isize) (z .fsize) b S (leb-true (z .fsize) (length S) (d .1)) sized in (
-      new-whole z (d .0) (after (make-writes (z .isize) (z .fsize)) S) n,
-      new-book (z .isize) (z .fsize) b (after (make-writes (z .isize) (z .fsize)) S) n z refl,
-    )
+    let n = newly (z .isize) (z .fsize) b S (leb-true (z .fsize) (length S) (d .1)) sized in
+    record {
+      whole = new-whole z (d .0) (after (make-writes (z .isize) (z .fsize)) S) n;
+      booked = new-book (z .isize) (z .fsize) b (after (make-writes (z .isize) (z .fsize)) S) n z refl;
+      claimed = new-claims (z .isize) (z .fsize) b (after (make-writes (z .isize) (z .fsize)) S) n;
+    }

@@ -1,23 +1,27 @@
 -- Every run keeps its promises, from what each call owes and what make owes.
 use mathlib.Core.Path.{_≡_, refl, sym, ap, subst, _∙_}
-use mathlib.Core.List.{List, []}
+use mathlib.Core.List.{List}
 use mathlib.Core.Bool.{Bool, true, false, cond}
-use Prim.Native.Nat.{ℕ}
+use Prim.Native.Nat.{ℕ, _-_}
+use native.Mathlib.Omega.{arith}
+use lib.Dec.{eqb, leb}
 use lib.ListN.{length, take}
 use lib.Seq.{take-length}
-use Rattle.std.proofs.shelf.Tests.{true≢false}
-use Rattle.disk.specs.Medium.{Power, Sectors, Sized, Write, Medium, after, Lasts, Fails, ran}
+use Rattle.std.proofs.shelf.Tests.{true≢false, eqb-true}
+use Rattle.fault.specs.declared.refusal.Refusal.the-variants.{BufferSize, MakeSizes}
+use Rattle.fault.specs.Refusals.{beyond, keeper}
+use Rattle.disk.specs.Medium.{Power, Sectors, Sized, Write, Medium, after, Lasts, Fails}
 use Rattle.disk.specs.Calls.{Did}
 use Rattle.disk.proofs.Writes.{ran-first, ran-all}
 use Rattle.format.specs.Layout.{block-bytes}
-use Rattle.format.specs.Sizes.{Sizes}
-use Rattle.rules.specs.Calls.{Answer, done}
+use Rattle.format.specs.Sizes.{Sizes, lawful-sizes}
+use Rattle.rules.specs.Calls.{Answer, done, refused}
 use Rattle.rules.specs.Make.{make-answer, make-by, make-writes, make-rule}
-use Rattle.rules.specs.Files.{files-on, first-book}
-use Rattle.rules.specs.Runs.{Ask, rule, writes, fed, settles, Point, start, next, restarted, Run, made, step, cut}
-use Rattle.rules.specs.Promises.{Good, Right, Before-or-after, Every-run-keeps-its-promises, Carries-on}
-use Rattle.rules.proofs.Owed.{Safe, Whole, Booked, Kept, Owes, Make-owes, alike-same}
-use Rattle.rules.proofs.Statuses.{safe-status, whole-status}
+use Rattle.rules.specs.Files.{files-on}
+use Rattle.rules.specs.Runs.{Ask, rule, writes, fed, settles, Point, start, next, restarted, Newly-made, Run, made, step, cut}
+use Rattle.rules.specs.Promises.{Good, Right, Before-or-after, Every-run-keeps-its-promises, Carries-on, Starts-a-run}
+use Rattle.rules.proofs.Owed.{Safe, Whole, Booked, Kept, Owes, Fresh, Make-owes, alike-same}
+use Rattle.rules.proofs.Statuses.{safe-status, whole-status, fresh-verdict}
 
 pub kept-good : (x : Point) → Kept x → Good x
 kept-good x k =
@@ -34,18 +38,26 @@ settled-step true d P f g e = f refl
 settled-step false d P f g e = g e
 
 -- an accepted make wrote all of its writes
-pub make-accepted : (z : Sizes) (before m : Medium) → Did (make-rule (z .isize) (z .fsize) block-bytes) before done m
-    → Lasts (before .power) (make-rule (z .isize) (z .fsize) block-bytes (before .sectors) .0)
+pub make-accepted : (z : Sizes) (before m : Medium) → Newly-made z before m
     → (make-answer (z .isize) (z .fsize) block-bytes (length (before .sectors)) ≡ done)
     × (m .sectors ≡ after (make-writes (z .isize) (z .fsize)) (before .sectors))
-make-accepted z before m d l =
-    let e = sym (d .answered l) in
-    let W = make-by (z .isize) (z .fsize) (make-answer (z .isize) (z .fsize) block-bytes (length (before .sectors))) in (
+make-accepted z before m n =
+    let e = sym (n .did .answered (n .lasted)) in (
       e,
-      ap (λ (n : Medium). n .sectors) (d .wrote)
-          ∙ ran-all (make-by (z .isize) (z .fsize) (make-answer (z .isize) (z .fsize) block-bytes (length (before .sectors)))) before l
+      ap (λ (y : Medium). y .sectors) (n .did .wrote)
+          ∙ ran-all (make-by (z .isize) (z .fsize) (make-answer (z .isize) (z .fsize) block-bytes (length (before .sectors)))) before (n .lasted)
           ∙ ap (λ (r : Answer). after (make-by (z .isize) (z .fsize) r) (before .sectors)) e,
     )
+
+-- only a sector buffer of its size is accepted
+whole-buffer : (i f buffer n : ℕ) → make-answer i f buffer n ≡ done → buffer ≡ block-bytes
+whole-buffer i f buffer n e = eqb-true buffer block-bytes (go (lawful-sizes i f) (leb f n) (eqb buffer block-bytes) e)
+  where
+    go : (p q r : Bool) → cond p (cond q (cond r done (refused (keeper BufferSize))) (refused (beyond (f - 1)))) (refused (keeper MakeSizes)) ≡ done → r ≡ true
+    go true true true e = refl
+    go true true false e = absurd (let z : _≡_ {A = ℕ} 0 1 = cc in omega arith)
+    go true false r e = absurd (let z : _≡_ {A = ℕ} 0 1 = cc in omega arith)
+    go false q r e = absurd (let z : _≡_ {A = ℕ} 0 1 = cc in omega arith)
 
 module _ (owes : (a : Ask) → Owes a) (make-owes : Make-owes) where
   -- after a call that was not cut
@@ -65,13 +77,13 @@ module _ (owes : (a : Ask) → Owes a) (make-owes : Make-owes) where
         booked = subst (λ (T : Sectors). Booked T (x .sizes) (fed (x .book) a (rule a (x .disk .sectors) .1))) (sym e) (owes a .booked S z (x .book) (k .safe) (k .booked));
       }
 
-  start-kept : (z : Sizes) (before m : Medium) → Sized (before .sectors) → Did (make-rule (z .isize) (z .fsize) block-bytes) before done m
-      → Lasts (before .power) (make-rule (z .isize) (z .fsize) block-bytes (before .sectors) .0) → Kept (start z m)
-  start-kept z before m sized d l =
-      let a = make-accepted z before m d l in
-      let f = make-owes z (before .sectors) sized (a .0) in
-      let w : Whole (m .sectors) z = subst (λ (T : Sectors). Whole T z) (sym (a .1)) (f .0) in
-      record { safe = w .safe; whole = λ u. w; booked = subst (λ (T : Sectors). Booked T z first-book) (sym (a .1)) (f .1) }
+  start-fresh : (z : Sizes) (before m : Medium) → Newly-made z before m → Fresh (m .sectors) z
+  start-fresh z before m n =
+      let a = make-accepted z before m n in
+      subst (λ (T : Sectors). Fresh T z) (sym (a .1)) (make-owes z (before .sectors) (n .sized) (a .0))
+
+  start-kept : (z : Sizes) (before m : Medium) → Newly-made z before m → Kept (start z m)
+  start-kept z before m n = let f = start-fresh z before m n in record { safe = f .whole .safe; whole = λ u. f .whole; booked = f .booked }
 
   -- the sectors after a call, cut or not
   first-writes : (x : Point) (a : Ask) (r : Answer) (m : Medium) → Did (rule a) (x .disk) r m
@@ -90,7 +102,7 @@ module _ (owes : (a : Ask) → Owes a) (make-owes : Make-owes) where
       }
 
   pub run-kept : {x : Point} → Run x → Kept x
-  run-kept (made z before m sized d l) = start-kept z before m sized d l
+  run-kept (made z before m n) = start-kept z before m n
   run-kept (step {x = x} run a r m d l) =
       subst (λ (s : Answer). Kept (next x a s m)) (sym (d .answered l))
       (next-kept x a m (run-kept run) (ap (λ (n : Medium). n .sectors) (d .wrote) ∙ ran-all (writes a (x .disk .sectors)) (x .disk) l))
@@ -112,6 +124,7 @@ module _ (owes : (a : Ask) → Owes a) (make-owes : Make-owes) where
         points = λ x run. kept-good x (run-kept run);
         answers = λ x run a r m d l. (d .answered l, right-answer x run a r m d l);
         cuts = torn-files;
+        new-volumes = λ z before m n room. fresh-verdict (m .sectors) z (start-fresh z before m n) room;
       }
 
   -- what a call does carries every run on
@@ -133,7 +146,16 @@ module _ (owes : (a : Ask) → Owes a) (make-owes : Make-owes) where
             (torn-files x run a r end (subst (λ (n : Medium). Did (rule a) n r end) (sym e) d));
       }
 
-  -- an accepted make in which power holds starts a run
-  pub starts : (z : Sizes) (before m : Medium) → Sized (before .sectors) → Did (make-rule (z .isize) (z .fsize) block-bytes) before done m
-      → Lasts (before .power) (make-rule (z .isize) (z .fsize) block-bytes (before .sectors) .0) → Run (start z m) × Good (start z m)
-  starts z before m sized d l = (made z before m sized d l, kept-good (start z m) (start-kept z before m sized d l))
+  -- where make is accepted and its power lasts, a run starts
+  pub starts : (z : Sizes) (buffer : ℕ) (before : Medium) (r : Answer) (end : Medium) → (r ≡ done → Sized (before .sectors)) → Did (make-rule (z .isize) (z .fsize) buffer) before r end → Starts-a-run z buffer before r end
+  starts z buffer before r end sized d e l =
+      let f = sym e ∙ d .answered l in
+      let b : buffer ≡ block-bytes = whole-buffer (z .isize) (z .fsize) buffer (length (before .sectors)) (sym f) in
+      let g : Did (make-rule (z .isize) (z .fsize) buffer) before done end = subst (λ (s : Answer). Did (make-rule (z .isize) (z .fsize) buffer) before s end) e d in
+      let n : Newly-made z before end =
+      record {
+        sized = sized e;
+        did = subst (λ (k : ℕ). Did (make-rule (z .isize) (z .fsize) k) before done end) b g;
+        lasted = subst (λ (k : ℕ). Lasts (before .power) (make-rule (z .isize) (z .fsize) k (before .sectors) .0)) b l;
+      } in
+      (made z before end n, kept-good (start z end) (start-kept z before end n))

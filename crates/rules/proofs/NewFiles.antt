@@ -1,31 +1,28 @@
 -- The files of a newly made volume: the root directory alone.
 use mathlib.Core.Path.{_≡_, refl, sym, ap, subst, _∙_}
-use mathlib.Core.Logic.{_⊎_, inl, inr, ⊎-elim, _≢_}
-use mathlib.Core.List.{List, [], _∷_, _++_}
-use mathlib.Core.Bool.{Bool, true, false, cond, _&&_}
+use mathlib.Core.Logic.{inl, inr, ⊎-elim, _≢_}
+use mathlib.Core.List.{List, [], _∷_}
+use mathlib.Core.Bool.{Bool, true, false, cond}
 use Prim.Native.Nat.{ℕ, zero, suc, _+_, _-_, _*_, _/_, _%_, _<_, _≤_}
 use native.Mathlib.Omega.{arith}
-use lib.Dec.{eqb, ltb, leb}
-use lib.ListN.{length, getD}
-use Rattle.std.proofs.shelf.Tests.{cases-eq, cases-lt, lt-ltb, le-ltb, le-leb, lt-leb, eq-eqb, ne-eqb, and-from, and-left, and-right, cond-true, cond-false, cond-both}
-use Rattle.std.specs.declared.option.Option.{Option}
+use lib.Dec.{eqb, ltb}
+use lib.ListN.{getD}
+use Rattle.std.proofs.shelf.Tests.{cases-eq, cases-lt, lt-ltb, le-ltb, le-leb, lt-leb, ne-eqb, and-from, and-left, and-right, cond-true, cond-false, cond-both}
 use Rattle.std.specs.declared.option.Option.the-variants.{Some, None}
 use Rattle.disk.specs.Medium.{Sectors}
-use Rattle.format.specs.Layout.{block-bytes, table-width, superblock, first-list-block, inodes-per-block, inode-bytes, slots, direct-slots, depth-of}
-use Rattle.format.specs.Numbers.{num}
-use Rattle.format.specs.Inode.{block-of-inode, start-of-inode, slot-at, mode-of, size-of, address-of, type-bits, type-rule, inode-type, claims-blocks, known-type}
-use Rattle.format.specs.declared.inode.InodeType.{InodeType}
-use Rattle.format.specs.declared.inode.InodeType.the-variants.{Unused, Regular, Directory, Special, Unknown}
+use Rattle.numbers.specs.Numbers.{num}
+use Rattle.format.specs.Layout.{block-bytes, table-width, inodes-per-block, inode-bytes, slots, direct-slots, depth-of}
+use Rattle.format.specs.Inode.{start-of-inode, mode-of, size-of, address-of, type-bits, type-rule, inode-type, claims-blocks, known-type}
+use Rattle.format.specs.declared.inode.InodeType.the-variants.{Unused, Directory}
 use Rattle.format.specs.Position.{positions, Split, split-of, slot-of, path-of, end-of-one, end-of-two}
 use Rattle.format.specs.Sizes.{Sizes, Bounds, inodes-of}
-use Rattle.freelist.specs.Bytes.{zeros}
-use Rattle.trees.specs.Trees.{total, hit, named, reach, Absent}
+use Rattle.trees.specs.Trees.{hit, named, reach, Absent}
 use Rattle.trees.specs.Volume.{in-file, claims}
 use Rattle.trees.proofs.Sums.{total-zero, total-replace}
 use Rattle.trees.proofs.Names.{named-none}
 use Rattle.verdict.specs.Sound.{inode-block, head, entry, claims-on}
-use Rattle.rules.specs.Make.{root, root-mode, root-size, root-list-block, list-block, root-block}
-use Rattle.rules.specs.Files.{File, Same, Alike, block-bytes-at, address-at, stored, file-of, is-file, files-on, root-file, first-book}
+use Rattle.rules.specs.Make.{root, root-size, root-list-block, list-block, root-block}
+use Rattle.rules.specs.Files.{Same, Alike, block-bytes-at, address-at, stored, file-of, is-file, files-on, root-file, first-book}
 use Rattle.rules.proofs.Layouts.{zeros-byte, zeros-num, root-list-apart, root-mode-is, root-size-is, root-slot-0, root-slot-other, root-block-tail}
 use Rattle.rules.proofs.NewSectors.{Newly}
 

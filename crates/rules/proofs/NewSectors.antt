@@ -1,24 +1,22 @@
 -- The sectors that make leaves, one by one.
-use mathlib.Core.Path.{_≡_, refl, sym, ap, subst, _∙_}
-use mathlib.Core.Logic.{_⊎_, inl, inr, ⊎-elim, _≢_}
+use mathlib.Core.Path.{_≡_, refl, sym, subst, _∙_}
+use mathlib.Core.Logic.{_⊎_, inl, ⊎-elim, _≢_}
 use mathlib.Core.List.{List, [], _∷_, _++_}
-use mathlib.Core.Bool.{Bool, true, false, cond}
-use Prim.Native.Nat.{ℕ, zero, suc, _+_, _-_, _*_, _<_, _≤_}
+use Prim.Native.Nat.{ℕ, zero, suc, _+_, _-_, _<_, _≤_}
 use native.Mathlib.Omega.{arith}
 use lib.ListN.{length, getD, set, length-set}
 use lib.Seq.{getD-set-same, getD-set-other}
-use Rattle.std.specs.shelf.Lists.{All}
 use Rattle.std.proofs.shelf.Tests.{cases-eq}
 use Rattle.disk.specs.Medium.{Sectors, Sized, Write, after}
 use Rattle.disk.proofs.Writes.{after-append, length-after, Spares, Sized-writes, sized-append, sized-set, sized-after, spares-append, getD-after-other}
-use Rattle.format.specs.Layout.{block-bytes, superblock, first-list-block}
+use Rattle.format.specs.Layout.{superblock, first-list-block}
 use Rattle.format.specs.Sizes.{Bounds}
-use Rattle.freelist.specs.Stack.{is-data, Out}
+use Rattle.freelist.specs.Stack.{Out}
 use Rattle.freelist.specs.Laws.{Distinct, Among, All-data, Lists-blocks, Relists}
 use Rattle.freelist.specs.Bytes.{unclaimed, emptied, gave-all}
 use Rattle.freelist.proofs.Takings.{data-below, below-data}
 use Rattle.freelist.proofs.Stands.{relisting-lists-exactly, unclaimed-data, unclaimed-are-each-once, members-spare, members-sized, writes-below-leave-the-list}
-use Rattle.rules.specs.Make.{root-list-block, list-block, list-writes, root-block, bare-superblock, new-list, make-writes}
+use Rattle.rules.specs.Make.{list-block, list-writes, root-block, bare-superblock, new-list, make-writes}
 use Rattle.rules.proofs.Layouts.{length-list-block, length-root-block, length-bare}
 
 -- the blocks that make gives

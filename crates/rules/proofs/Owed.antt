@@ -1,19 +1,19 @@
 -- What every point of a run keeps, and what one call owes to that.
 use mathlib.Core.Path.{_≡_, refl}
 use mathlib.Core.List.{List, []}
-use mathlib.Core.Bool.{Bool, true, false}
+use mathlib.Core.Bool.{true, false}
 use Prim.Native.Nat.{ℕ, _+_, _*_, _<_, _≤_}
 use lib.ListN.{length, getD, take}
 use Rattle.std.specs.declared.option.Option.{Option}
 use Rattle.std.specs.declared.option.Option.the-variants.{Some, None}
-use Rattle.std.specs.declared.result.Result.the-variants.{Ok, Err}
+use Rattle.std.specs.declared.result.Result.the-variants.{Ok}
 use Rattle.disk.specs.Medium.{Sectors, Sized, after}
 use Rattle.format.specs.Layout.{block-bytes, superblock}
 use Rattle.format.specs.Superblock.{flock-of, nfree-of, tfree-of}
 use Rattle.format.specs.Inode.{size-of}
 use Rattle.format.specs.Position.{positions}
 use Rattle.format.specs.Sizes.{Sizes, Bounds, inodes-of}
-use Rattle.trees.specs.Trees.{count}
+use Rattle.trees.specs.Trees.{hit, count}
 use Rattle.trees.specs.Walk.{Data}
 use Rattle.verdict.specs.Sound.{inode-block, claims-on, Lawful}
 use Rattle.rules.specs.Calls.{done, lookup}
@@ -68,8 +68,13 @@ pub alike-same : (f : Option File) → Alike f f
 alike-same None = tt
 alike-same (Some f) = record { sizes = refl; bytes = λ k h. refl }
 
--- what make owes: on a disk that it accepts it leaves a whole volume, with the root directory alone
+-- what make leaves: a whole volume with the root directory alone, whose block is the only one that files claim
+pub record Fresh (T : Sectors) (z : Sizes) : Type 0 where
+  pub whole : Whole T z
+  pub booked : Booked T z first-book
+  pub claimed : (b : ℕ) → claims-on T (z .isize) b ≡ hit (z .isize) b
+
+-- what make owes on a disk that it accepts
 abbrev pub Make-owes : Type 0
 Make-owes =
-    (z : Sizes) (S : Sectors) → Sized S → make-answer (z .isize) (z .fsize) block-bytes (length S) ≡ done
-    → Whole (after (make-writes (z .isize) (z .fsize)) S) z × Booked (after (make-writes (z .isize) (z .fsize)) S) z first-book
+    (z : Sizes) (S : Sectors) → Sized S → make-answer (z .isize) (z .fsize) block-bytes (length S) ≡ done → Fresh (after (make-writes (z .isize) (z .fsize)) S) z

@@ -1,12 +1,13 @@
 -- Every run keeps its promises; each call carries every run on; an accepted make starts one.
-use Rattle.disk.specs.Medium.{Sized, Medium, Lasts}
+use Prim.Native.Nat.{ℕ}
+use mathlib.Core.Path.{_≡_}
+use Rattle.disk.specs.Medium.{Medium, Sized}
 use Rattle.disk.specs.Calls.{Did}
-use Rattle.format.specs.Layout.{block-bytes}
 use Rattle.format.specs.Sizes.{Sizes}
 use Rattle.rules.specs.Calls.{Answer, done}
 use Rattle.rules.specs.Make.{make-rule}
-use Rattle.rules.specs.Runs.{Ask, rule, start, Point, Run}
-use Rattle.rules.specs.Promises.{Good, Every-run-keeps-its-promises, Carries-on}
+use Rattle.rules.specs.Runs.{Ask, rule, Point, Run}
+use Rattle.rules.specs.Promises.{Every-run-keeps-its-promises, Carries-on, Starts-a-run}
 use Rattle.rules.proofs.Owed.{Kept}
 use Rattle.rules.proofs.Owing.{call-owes}
 use Rattle.rules.proofs.Makes.{make-owes}
@@ -24,6 +25,5 @@ pub carried-on : (a : Ask) (before : Medium) (r : Answer) (end : Medium) → Did
 carried-on a before r end d = master.carries call-owes make-owes a before r end d
 
 -- for the contract of make
-pub started : (z : Sizes) (before m : Medium) → Sized (before .sectors) → Did (make-rule (z .isize) (z .fsize) block-bytes) before done m
-    → Lasts (before .power) (make-rule (z .isize) (z .fsize) block-bytes (before .sectors) .0) → Run (start z m) × Good (start z m)
-started z before m sized d l = master.starts call-owes make-owes z before m sized d l
+pub started : (z : Sizes) (buffer : ℕ) (before : Medium) (r : Answer) (end : Medium) → (r ≡ done → Sized (before .sectors)) → Did (make-rule (z .isize) (z .fsize) buffer) before r end → Starts-a-run z buffer before r end
+started z buffer before r end sized d = master.starts call-owes make-owes z buffer before r end sized d

@@ -1,11 +1,11 @@
 -- What a call that writes nothing owes.
-use mathlib.Core.Path.{_≡_, refl, sym, ap, subst, _∙_}
-use mathlib.Core.List.{List, [], _∷_}
+use mathlib.Core.Path.{_≡_, sym, ap, subst, _∙_}
+use mathlib.Core.List.{List, []}
 use mathlib.Core.Bool.{Bool, true, false, cond}
-use mathlib.Core.Logic.{_⊎_, inl, inr}
+use mathlib.Core.Logic.{inl}
 use Prim.Native.Nat.{ℕ}
-use lib.ListN.{length, getD, take}
-use lib.Dec.{eqb, leb}
+use lib.ListN.{getD, take}
+use lib.Dec.{leb}
 use lib.Seq.{take-nil}
 use Rattle.std.specs.Orderings.{When}
 use Rattle.std.specs.declared.result.Result.{Result}

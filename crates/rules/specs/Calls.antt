@@ -1,5 +1,4 @@
 -- The rule of each call that writes nothing: what it answers, by the sectors at its entry, and what it leaves in the caller's buffers.
-use mathlib.Core.Path.{_≡_}
 use mathlib.Core.List.{List, []}
 use mathlib.Core.Bool.{Bool, true, false, cond, _&&_}
 use Prim.Native.Nat.{ℕ}

@@ -1,15 +1,14 @@
 -- The rule of make: what it writes, in order, and what it answers.
-use mathlib.Core.Path.{_≡_}
 use mathlib.Core.List.{List, [], _∷_, _++_}
-use mathlib.Core.Bool.{Bool, true, false, cond}
-use Prim.Native.Nat.{ℕ, zero, suc, _+_, _-_, _*_}
+use mathlib.Core.Bool.{cond}
+use Prim.Native.Nat.{ℕ, zero, suc, _+_, _-_}
 use lib.ListN.{length, set}
 use lib.Dec.{eqb, leb}
 use Rattle.fault.specs.declared.refusal.Refusal.the-variants.{BufferSize, MakeSizes}
 use Rattle.fault.specs.Refusals.{beyond, keeper}
 use Rattle.disk.specs.Medium.{Sectors, Write}
+use Rattle.numbers.specs.Numbers.{put-num}
 use Rattle.format.specs.Layout.{block-bytes, superblock, first-list-block}
-use Rattle.format.specs.Numbers.{put-num}
 use Rattle.format.specs.Superblock.{at-isize, at-fsize, at-tinode, at-magic, at-type, magic}
 use Rattle.format.specs.Inode.{start-of-inode, slot-at}
 use Rattle.format.specs.Sizes.{lawful-sizes, inodes-of}

@@ -1,6 +1,5 @@
 -- Runs: any calls on a newly made volume, in any order, with power failing before any sector write.
-use mathlib.Core.Path.{_≡_}
-use mathlib.Core.List.{List, [], _∷_}
+use mathlib.Core.List.{List, []}
 use mathlib.Core.Bool.{Bool, true, false, cond}
 use Prim.Native.Nat.{ℕ}
 use Rattle.disk.specs.Medium.{Power, Sectors, Sized, Write, Medium, Lasts, Fails}
@@ -43,7 +42,7 @@ settles (check held n room) r = false
 settles (clear held n room) r = accepted r
 settles close r = false
 
--- a point of a run: the sizes that the volume was made with, the disk, the file book, and whether a failure may have left blocks missing
+-- a point of a run: the sizes of the volume, its disk, the book of its files, and whether some failure may have left blocks missing
 pub record Point : Type 0 where
   pub sizes : Sizes
   pub disk : Medium
@@ -57,18 +56,21 @@ start z m = record { sizes = z; disk = m; book = first-book; unmended = false }
 abbrev pub next : Point → Ask → Answer → Medium → Point
 next x a r m = record { sizes = x .sizes; disk = m; book = fed (x .book) a r; unmended = cond (settles a r) false (x .unmended) }
 
--- after a power failure: the same sectors, new power, the book anew with the files then on the disk
+-- after a power failure: the sectors as they are, some new power, and a book that begins with the files found there
 abbrev pub restarted : Point → Medium → Power → Point
 restarted x m p =
     record { sizes = x .sizes; disk = record { sectors = m .sectors; power = p }; book = files-on (m .sectors) (x .sizes); unmended = true }
 
--- A run starts with an accepted make in which power held, on a disk whose sectors have their size, and goes on by calls that were not cut and by calls that were.
+-- m is newly made from before: an accepted make of sizes z in which power held, on a disk whose sectors have their size
+pub record Newly-made (z : Sizes) (before m : Medium) : Type 0 where
+  pub sized : Sized (before .sectors)
+  pub did : Did (make-rule (z .isize) (z .fsize) block-bytes) before done m
+  pub lasted : Lasts (before .power) (make-rule (z .isize) (z .fsize) block-bytes (before .sectors) .0)
+
+-- A run starts with a newly made volume, and goes on by calls that were not cut and by calls that were.
 -- A call does whatever its contract allows, and any call may come at any point.
 pub data Run : Point → Type 0 where
-  made : (z : Sizes) (before m : Medium) → Sized (before .sectors)
-      → Did (make-rule (z .isize) (z .fsize) block-bytes) before done m
-      → Lasts (before .power) (make-rule (z .isize) (z .fsize) block-bytes (before .sectors) .0)
-      → Run (start z m)
+  made : (z : Sizes) (before m : Medium) → Newly-made z before m → Run (start z m)
   step : {x : Point} → Run x → (a : Ask) (r : Answer) (m : Medium)
       → Did (rule a) (x .disk) r m → Lasts (x .disk .power) (writes a (x .disk .sectors)) → Run (next x a r m)
   cut : {x : Point} → Run x → (a : Ask) (r : Answer) (m : Medium)

@@ -14,7 +14,8 @@ pub fn set_code(codes: &mut [u8], block: u32, code: u8)
     requires { ⌜ block < length (now codes) ⌝ }
     ensures { λ _. ⌜ now (codes .exit) ≡ set (now (codes .entry)) block code ⌝ }
 {
-    codes[block as usize] = code;
+    let at = block as usize;
+    codes[at] = code;
 }
 
 // No block is claimed.

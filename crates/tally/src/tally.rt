@@ -1,5 +1,6 @@
 ghost use mathlib.Core.Path.{_≡_};
-ghost use mathlib.Core.Bool.{cond};
+ghost use mathlib.Core.Bool.{false, cond};
+ghost use mathlib.Core.List.{List};
 ghost use Prim.Native.Nat.{ℕ, _+_, _<_, _^_};
 ghost use lib.ListN.{length, getD, set};
 ghost use lib.Bits.{bitOr};
@@ -54,6 +55,24 @@ impl Tally {
         self.status |= finding.kind.bit();
     }
 
+    // Notes an address that cannot be claimed.
+    fn refuse(&mut self, findings: &mut [Finding], kind: Kind, address: u32, place: Place) -> bool
+        requires { ⌜ now self .count + 1 < 2 ^ 32 ⌝ }
+        ensures refused { λ r. ⌜ r ≡ false ⌝ }
+        ensures scan { λ _. ⌜ ((cs : List ℕ) → scan-of (now (self .exit)) cs (now (findings .exit)) ≡ note kind address place (scan-of (now (self .entry)) cs (now (findings .entry)))) ⌝ }
+        ensures count { λ _. ⌜ now (self .exit) .count ≡ now (self .entry) .count + 1 ⌝ }
+    {
+        self.note(
+            findings,
+            Finding {
+                kind,
+                address,
+                place,
+            },
+        );
+        false
+    }
+
     // Claims a data block that nothing has claimed; any other address is a finding. Says whether it claimed.
     pub fn meet(
         &mut self,
@@ -72,26 +91,10 @@ impl Tally {
         ensures count { λ r. ⌜ now (self .exit) .count + cond r 1 0 ≡ now (self .entry) .count + 1 ⌝ }
     {
         if address < sizes.isize() || address >= sizes.fsize() {
-            self.note(
-                findings,
-                Finding {
-                    kind: claim.bad,
-                    address,
-                    place: claim.place,
-                },
-            );
-            return false;
+            return self.refuse(findings, claim.bad, address, claim.place);
         }
         if code_of(codes, address) != 0 {
-            self.note(
-                findings,
-                Finding {
-                    kind: claim.again,
-                    address,
-                    place: claim.place,
-                },
-            );
-            return false;
+            return self.refuse(findings, claim.again, address, claim.place);
         }
         set_code(codes, address, claim.code);
         true

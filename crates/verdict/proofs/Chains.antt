@@ -11,9 +11,9 @@ use Rattle.std.proofs.shelf.Tests.{cases-eq, cases-lt, ne-eqb, le-ltb, ltb-fals
 use Rattle.fault.specs.declared.place.Place.the-variants.{Member}
 use Rattle.fault.specs.declared.finding.Kind.the-variants.{CountTooLarge, BadEntry, SecondEntry}
 use Rattle.disk.specs.Medium.{Sectors}
+use Rattle.numbers.specs.Numbers.{nums}
+use Rattle.numbers.proofs.Numbers.{length-nums, getD-nums}
 use Rattle.format.specs.Layout.{superblock, list-room}
-use Rattle.format.specs.Numbers.{nums}
-use Rattle.format.proofs.Numbers.{length-nums, getD-nums}
 use Rattle.format.specs.Superblock.{at-free, nfree-of}
 use Rattle.freelist.specs.Stack.{is-data, Listed, Lists}
 use Rattle.freelist.specs.Bytes.{member-count, at-entries, free-list-of}

@@ -12,8 +12,8 @@ use Rattle.fault.specs.declared.finding.Kind.the-variants.{BadAddress, SecondCl
 use Rattle.fault.specs.declared.finding.Finding.{Finding}
 use Rattle.fault.specs.Findings.{status-bit}
 use Rattle.disk.specs.Medium.{Sectors}
+use Rattle.numbers.specs.Numbers.{num}
 use Rattle.format.specs.Layout.{table-width, superblock, first-list-block, inodes-per-block, slots, depth-of, list-room}
-use Rattle.format.specs.Numbers.{num}
 use Rattle.format.specs.Superblock.{nfree-of, free-of}
 use Rattle.format.specs.Inode.{mode-of, type-bits, type-rule, address-of}
 use Rattle.format.specs.Sizes.{inodes-of}

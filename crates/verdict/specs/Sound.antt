@@ -6,8 +6,8 @@ use mathlib.Core.Logic.{_⊎_}
 use Prim.Native.Nat.{ℕ, zero, suc, _+_, _*_, _<_, _≤_}
 use lib.ListN.{length, getD}
 use Rattle.disk.specs.Medium.{Sectors}
+use Rattle.numbers.specs.Numbers.{num}
 use Rattle.format.specs.Layout.{table-width, superblock, slots, depth-of}
-use Rattle.format.specs.Numbers.{num}
 use Rattle.format.specs.Inode.{block-of-inode, inode-type, address-of, claims-blocks, known-type}
 use Rattle.format.specs.Sizes.{Bounds, inodes-of}
 use Rattle.freelist.specs.Stack.{Lists}

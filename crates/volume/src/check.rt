@@ -6,6 +6,8 @@ ghost use denote.Ref.{now};
 ghost use Rattle.std.specs.Results.{Cases as ByOk};
 ghost use Rattle.format.specs.Layout.{block-bytes, superblock};
 ghost use Rattle.rules.specs.Calls.{same-sizes, may-check, check-answer, scratch-after, findings-after};
+ghost use Rattle.rules.specs.Runs.{check as check-call};
+ghost use Rattle.rules.specs.Promises.{Carries-on};
 ghost use Rattle.volume.specs.Answers.{looked-up, check-says, sizes-of};
 use crate::held::Volume;
 use crate::identify::look_up;
@@ -56,6 +58,7 @@ pub fn check<D: Disk, V: Volume>(
     ensures answer { λ r. ⌜ check-says r ≡ check-answer (D·Disk .medium (now (d .entry)) .sectors) (length (now (findings .entry))) (may-check (V·Volume .sizes (now (held .entry))) (length (now (scratch .entry))) (D·Disk .medium (now (d .entry)) .sectors)) ⌝ }
     ensures scratch { λ _. ⌜ now (scratch .exit) ≡ scratch-after (D·Disk .medium (now (d .entry)) .sectors) (may-check (V·Volume .sizes (now (held .entry))) (length (now (scratch .entry))) (D·Disk .medium (now (d .entry)) .sectors)) (now (scratch .entry)) ⌝ }
     ensures findings { λ _. ⌜ now (findings .exit) ≡ findings-after (D·Disk .medium (now (d .entry)) .sectors) (may-check (V·Volume .sizes (now (held .entry))) (length (now (scratch .entry))) (D·Disk .medium (now (d .entry)) .sectors)) (now (findings .entry)) ⌝ }
+    ensures runs { λ r. ⌜ Carries-on (check-call (V·Volume .sizes (now (held .entry))) (length (now (scratch .entry))) (length (now (findings .entry)))) (D·Disk .medium (now (d .entry))) (check-says r) (D·Disk .medium (now (d .entry))) ⌝ }
 {
     let mut sb = [0u8; 512];
     let sizes = may_check(d, held.geometry(), scratch.len(), &mut sb)?;

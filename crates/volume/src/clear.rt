@@ -6,6 +6,8 @@ ghost use denote.Ref.{now};
 ghost use Rattle.std.specs.Results.{Cases as ByOk};
 ghost use Rattle.format.specs.Layout.{block-bytes, superblock};
 ghost use Rattle.rules.specs.Calls.{may-clear, clear-answer, scratch-after, findings-after};
+ghost use Rattle.rules.specs.Runs.{clear as clear-call};
+ghost use Rattle.rules.specs.Promises.{Carries-on};
 ghost use Rattle.volume.specs.Answers.{looked-up, clear-says, make-says, cleared-sizes, sizes-of};
 use crate::check::may_check;
 use crate::held::Clear;
@@ -63,6 +65,7 @@ impl Found {
         ensures volume { λ r. ⌜ cleared-sizes r ≡ sizes-of (self .sizes) ⌝ }
         ensures scratch { λ _. ⌜ now (scratch .exit) ≡ scratch-after (D·Disk .medium (now (d .entry)) .sectors) (may-clear (sizes-of (self .sizes)) (length (now (scratch .entry))) (D·Disk .medium (now (d .entry)) .sectors)) (now (scratch .entry)) ⌝ }
         ensures findings { λ _. ⌜ now (findings .exit) ≡ findings-after (D·Disk .medium (now (d .entry)) .sectors) (may-clear (sizes-of (self .sizes)) (length (now (scratch .entry))) (D·Disk .medium (now (d .entry)) .sectors)) (now (findings .entry)) ⌝ }
+        ensures runs { λ r. ⌜ Carries-on (clear-call (sizes-of (self .sizes)) (length (now (scratch .entry))) (length (now (findings .entry)))) (D·Disk .medium (now (d .entry))) (clear-says r) (D·Disk .medium (now (d .entry))) ⌝ }
     {
         let Found { sizes } = self;
         match inspect(d, sizes, scratch, findings) {

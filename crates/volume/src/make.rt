@@ -7,6 +7,7 @@ ghost use Rattle.disk.specs.Medium.{ran};
 ghost use Rattle.format.specs.Layout.{block-bytes, superblock, first-list-block};
 ghost use Rattle.freelist.specs.Bytes.{zeros};
 ghost use Rattle.rules.specs.Make.{root-list-block, list-block, list-writes, root-block, bare-superblock, new-list, make-writes, make-answer, make-rule, make-buffer};
+ghost use Rattle.rules.specs.Promises.{Starts-a-run};
 ghost use Rattle.volume.specs.Answers.{make-says};
 use crate::identify::beyond_end;
 use crate::identify::refuse;
@@ -14,7 +15,6 @@ use disk::disk::Disk;
 use disk::disk::put;
 use fault::fault::Fault;
 use fault::refusal::Refusal;
-use format::fields::put16;
 use format::geometry::Geometry;
 use format::inode;
 use format::layout::BLOCK_BYTES;
@@ -23,6 +23,8 @@ use format::layout::SUPERBLOCK;
 use format::superblock;
 use freelist::list::empty_list;
 use freelist::list::give_unclaimed;
+use numbers::fields::put16;
+use numbers::fields::put32;
 
 // The root directory: its inode, mode, links and size.
 const ROOT: u32 = 2;
@@ -72,11 +74,11 @@ fn lay_superblock(sb: &mut [u8], sizes: Geometry)
     requires blank { ⌜ now sb ≡ zeros block-bytes ⌝ }
     ensures { λ _. ⌜ now (sb .exit) ≡ bare-superblock (sizes .isize) (sizes .fsize) ⌝ }
 {
-    superblock::set_isize(sb, sizes.isize() as u16);
-    superblock::set_fsize(sb, sizes.fsize());
-    superblock::set_tinode(sb, (sizes.inodes() - 2) as u16);
-    superblock::set_magic(sb, superblock::MAGIC);
-    superblock::set_type(sb, superblock::TYPE);
+    put16(sb, superblock::AT_ISIZE, sizes.isize() as u16);
+    put32(sb, superblock::AT_FSIZE, sizes.fsize());
+    put16(sb, superblock::AT_TINODE, (sizes.inodes() - 2) as u16);
+    put32(sb, superblock::AT_MAGIC, superblock::MAGIC);
+    put32(sb, superblock::AT_TYPE, superblock::TYPE);
 }
 
 // Block n of the i-list, from 0: the first one holds the root's inode.
@@ -152,6 +154,7 @@ pub fn make<D: Disk>(d: &mut D, isize: u32, fsize: u32, buffer: &mut [u8]) -> Re
     ensures wrote { λ _. ⌜ D·Disk .medium (now (d .exit)) ≡ ran (make-rule isize fsize (length (now (buffer .entry))) (D·Disk .medium (now (d .entry)) .sectors) .0) (D·Disk .medium (now (d .entry))) ⌝ }
     ensures answer { λ r. ⌜ make-says r ≡ make-answer isize fsize (length (now (buffer .entry))) (length (D·Disk .medium (now (d .entry)) .sectors)) ⌝ }
     ensures buffer { λ _. ⌜ now (buffer .exit) ≡ make-buffer isize fsize (make-answer isize fsize (length (now (buffer .entry))) (length (D·Disk .medium (now (d .entry)) .sectors))) (now (buffer .entry)) ⌝ }
+    ensures runs { λ r. ⌜ Starts-a-run (record { isize = isize; fsize = fsize }) (length (now (buffer .entry))) (D·Disk .medium (now (d .entry))) (make-says r) (D·Disk .medium (now (d .exit))) ⌝ }
 {
     let Some(sizes) = Geometry::new(isize, fsize) else {
         return Err(refuse(Refusal::MakeSizes));

@@ -7,7 +7,7 @@ use lib.ListN.{length, replicate, drop}
 use Rattle.verdict.specs.Scan.{check}
 use Rattle.verdict.specs.Verdict.{codes-of}
 use Rattle.scan.proofs.Shown.{check-done-shows}
-use Rattle.check.specs.Resume.{fresh}
+use Rattle.check.specs.FilePhase.{fresh}
 use Rattle.check.proofs.run.run_check.Needs as need
 
 pub returns : need.returns

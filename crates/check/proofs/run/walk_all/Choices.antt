@@ -2,7 +2,8 @@ use mathlib.Core.Path.{_≡_}
 use Prim.Native.Nat.{_+_, _≤_}
 use Rattle.verdict.specs.Scan.{check}
 use Rattle.tally.specs.Tallies.{scan-of}
-use Rattle.check.specs.Resume.{resume, effort, spent, Sound, fresh}
+use Rattle.check.specs.Resume.{resume, effort, spent, Sound}
+use Rattle.check.specs.FilePhase.{fresh}
 use Rattle.check.proofs.run.walk_all.Given as given
 
 abbrev pub Inv-loop-met : given.InvT-loop-met

@@ -10,12 +10,12 @@ use Rattle.freelist.proofs.list.give.Needs as need
 pub give-requires : need.give-requires
 give-requires g c κs =
     rw (c .lock-guard .ensures .locked)
-    (record { sized = length-set (c .args .sb .now) at-flock 1 ∙ c .pre .sized; lawful = rw (lock-count (c .args .sb .now) 1) (c .pre .lawful); there = c .pre .there })
+    (record { sized = length-set (c .args .sb .now) at-flock 1 ∙ c .pre .sized; lawful = rw (lock-count (c .args .sb .now) 1) (c .pre .lawful); there = omega arith })
 
 pub drop-guard-requires : need.drop-guard-requires
 drop-guard-requires g c κs =
     let e : length (c .give .last .self .buf .now) ≡ length (c .args .sb .now) =
-    ap length (c .give .ensures .after) ∙ length-give (c .args .block) (c .lock-guard .result .buf .now) ∙ ap length (c .lock-guard .ensures .locked) ∙ length-set (c .args .sb .now) at-flock 1 in
+    ap length (c .give .ensures .after) ∙ length-give _ (c .lock-guard .result .buf .now) ∙ ap length (c .lock-guard .ensures .locked) ∙ length-set (c .args .sb .now) at-flock 1 in
     omega arith
 
 pub returns : need.returns

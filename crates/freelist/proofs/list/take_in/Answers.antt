@@ -1,7 +1,7 @@
 use mathlib.Core.Path.{_≡_, sym, ap, _∙_}
 use Prim.Native.Nat.{ℕ, _-_}
 use native.Mathlib.Omega.{arith}
-use Rattle.format.specs.Numbers.{put-num}
+use Rattle.numbers.specs.Numbers.{put-num}
 use Rattle.format.specs.Superblock.{at-nfree, nfree-of, free-of}
 use Rattle.freelist.specs.Bytes.{lowered}
 use Rattle.freelist.proofs.Ways.{take-too-many, take-none, take-end, take-bad, take-member-block, take-last, ends, ends-by}

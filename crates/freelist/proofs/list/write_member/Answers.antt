@@ -9,14 +9,14 @@ use Rattle.freelist.proofs.list.write_member.Needs as need
 
 pub part-put-end : need.part-put-end
 unfolding zeros
-part-put-end g c = sym (laid-length (c .args .sb .now) (c .copy-from-slice .last .self) (c .put32 .last .b) (c .copy-from-slice .ensures .after) (c .pre .sized) (c .put32 .ensures))
+part-put-end g c = sym (laid-length (c .args .sb .now) (c .copy-from-slice .last .self) (c .put32 .last .b) _ (c .copy-from-slice .ensures .after) (c .pre .sized) (c .put32 .ensures))
 
 pub put-requires : need.put-requires
 unfolding zeros
 put-requires g c κs =
     record {
       within = c .pre .there;
-      sized = laid-length (c .args .sb .now) (c .copy-from-slice .last .self) (c .put32 .last .b) (c .copy-from-slice .ensures .after) (c .pre .sized) (c .put32 .ensures);
+      sized = laid-length (c .args .sb .now) (c .copy-from-slice .last .self) (c .put32 .last .b) _ (c .copy-from-slice .ensures .after) (c .pre .sized) (c .put32 .ensures);
     }
 
 pub returns : need.returns

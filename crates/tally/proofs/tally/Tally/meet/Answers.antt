@@ -18,6 +18,7 @@ returns-then-address-isize c =
     ] in
     let o = opens-bad _ _ (c .args .address) (c .args .codes .now) h in
     let t = met-bad _ _ (c .args .claim .code) (c .args .claim .bad) (c .args .claim .again) (c .args .claim .place) (c .args .address) (scan-of (c .args .self .now) (c .args .codes .now) (c .args .findings .now)) h in
+    let q = c .refuse .ensures .scan (c .args .codes .now) in
     search needs
 
 pub returns-then-code-of-ne0 : need.returns-then-code-of-ne0
@@ -27,6 +28,7 @@ returns-then-code-of-ne0 c =
     let n : getD (c .args .codes .now) (c .args .address) 0 ≡ 0 → ⊥ = search needs in
     let o = opens-again (c .args .sizes .isize) (c .args .sizes .fsize) (c .args .address) (c .args .codes .now) n in
     let t = met-again _ _ (c .args .claim .code) (c .args .claim .bad) (c .args .claim .again) (c .args .claim .place) (c .args .address) (scan-of (c .args .self .now) (c .args .codes .now) (c .args .findings .now)) l r n in
+    let q = c .refuse-then-code-of-ne0 .ensures .scan (c .args .codes .now) in
     search needs
 
 pub returns : need.returns

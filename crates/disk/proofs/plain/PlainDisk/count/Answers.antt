@@ -1,7 +1,0 @@
-use mathlib.Core.Path.{sym}
-use native.Mathlib.Omega.{arith}
-use Rattle.disk.proofs.Images.{length-sectors, sized-sectors}
-use Rattle.disk.proofs.plain.PlainDisk.count.Needs as need
-
-pub returns : need.returns
-returns c = record { is = sym (length-sectors _ (c .args .self .now .bytes .now)); sized = sized-sectors _ (c .args .self .now .bytes .now) (omega arith) }

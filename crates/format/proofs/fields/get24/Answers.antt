@@ -1,7 +1,0 @@
-use native.Mathlib.Omega.{arith}
-use Rattle.format.specs.Numbers.{num}
-use Rattle.format.proofs.fields.get24.Needs as need
-
-pub returns : need.returns
-unfolding num
-returns c = omega arith

@@ -1,0 +1,7 @@
+use native.Mathlib.Omega.{arith}
+use Rattle.numbers.specs.Numbers.{num}
+use Rattle.numbers.proofs.fields.get16.Needs as need
+
+pub returns : need.returns
+unfolding num
+returns c = omega arith

@@ -1,0 +1,3 @@
+// Numbers in a row of bytes, high byte first.
+pub mod fields;
+pub mod laws;
