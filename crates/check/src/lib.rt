@@ -1,4 +1,6 @@
 // The check: one walk through files, free list and blocks.
+#![tactic(auto)]
+
 mod files;
 mod level;
 mod list;

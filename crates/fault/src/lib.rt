@@ -1,4 +1,6 @@
 // What a call refuses, where, and what the check finds.
+#![tactic(auto)]
+
 pub mod fault;
 pub mod finding;
 pub mod place;

@@ -1,4 +1,6 @@
 // The bytes of a volume: sizes, superblock, inodes, positions.
+#![tactic(auto)]
+
 pub mod geometry;
 pub mod ilist;
 pub mod inode;

@@ -1,4 +1,6 @@
 // icheck: checks the image on standard input and prints the findings and the verdict.
+#![tactic(auto)]
+
 use disk::admit::SECTOR;
 use disk::disk::Disk;
 use fault::fault::Fault;

@@ -1,4 +1,6 @@
 // Disks over other disks: the forwarder, the fuse and piles of them.
+#![tactic(auto)]
+
 pub mod forwarder;
 pub mod fuse;
 pub mod laws;

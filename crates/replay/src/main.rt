@@ -1,4 +1,6 @@
 // replay: runs a script of calls on one disk and prints each answer.
+#![tactic(auto)]
+
 mod answer;
 mod buffers;
 mod calls;

@@ -1,4 +1,6 @@
 // What the check notes: the codes of blocks, the findings, the census, and the verdict on them.
+#![tactic(auto)]
+
 pub mod census;
 pub mod codes;
 pub mod tally;

@@ -1,4 +1,6 @@
 // Trees of tables, and how often they name a block.
+#![tactic(auto)]
+
 ghost use Rattle.trees.specs.Laws.{WalkSaysEachBlockOnce, FilesSayEachBlockOnce, NoFindingSaysSound, CodesSayTheClaims, NothingMissingSaysFull};
 
 // What a check by codes finds agrees with the counts of claims.

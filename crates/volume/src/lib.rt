@@ -1,4 +1,6 @@
 // Volumes: making, finding, checking, clearing and closing them.
+#![tactic(auto)]
+
 pub mod check;
 pub mod clear;
 pub mod find;
