@@ -10,9 +10,9 @@ returns g c =
     let lo = c.args.sizes.isize in
     let hi = c.args.sizes.fsize in
     let os = c.args.findings.now in
-    let t = c.walk-files-tally.result in
-    let z : c.clear-codes.new.codes ≡ replicate hi 0 = search rules in
-    let e = c.walk-files-tally.ensures ∙ ap (λ (x : List ℕ). files ss lo hi 0 (fresh x os)) z in
-    let r = files_done_show ss lo hi os c.walk-files-tally.new.findings t.count t.status c.walk-files-tally.new.codes e in
+    let t = c.walk_files-tally.result in
+    let z : c.clear_codes.new.codes ≡ replicate hi 0 = search rules in
+    let e = c.walk_files-tally.ensures ∙ ap (λ (x : List ℕ). files ss lo hi 0 (fresh x os)) z in
+    let r = files_done_show ss lo hi os c.walk_files-tally.new.findings t.count t.status c.walk_files-tally.new.codes e in
     let d = r.codes in
     record { count = r.number; scratch = cc; findings = r.findings }

@@ -14,9 +14,9 @@ filled o n k x b q h e =
 
 pub returns : goal.returns
 returns c =
-    let o = c.start-of-at.result in
+    let o = c.start_of-at.result in
     let x = c.args.block.now in
-    let s = c.start-of-at.ensures in
+    let s = c.start_of-at.ensures in
     let p = start_in c.args.inode in
     filled o inode_bytes (o + inode_bytes - o) x c.fill.new.self (omega arith) (omega arith) (c.fill.ensures.after (λ y h. h))
     ∙ ap (λ (j : ℕ). take j x ++ (replicate inode_bytes 0 ++ drop (j + inode_bytes) x)) s

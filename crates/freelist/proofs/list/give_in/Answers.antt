@@ -20,7 +20,7 @@ returns g c =
     ] in
     let q : c.if-n-eq0.sb ≡ grounded c.args.sb.now =
     elim c.if-n-eq0.branch [
-      | then-n-eq0 w ↦ w.sb-is ∙ w.set-free-entry.ensures ∙ sym (grounded_none s (omega arith))
+      | then-n-eq0 w ↦ w.sb-is ∙ w.set_free_entry.ensures ∙ sym (grounded_none s (omega arith))
       | else-n-eq0+then-n-eq-ROOM w ↦ w.sb-is ∙ sym (grounded_some s (omega arith))
       | else-n-eq0+else-n-eq-ROOM w ↦ w.sb-is ∙ sym (grounded_some s (omega arith))
     ] in
@@ -29,7 +29,7 @@ returns g c =
       wrote =
           elim c.if-n-eq0.branch [
             | then-n-eq0 w ↦ ap g.D.Disk.medium w.d-is ∙ sym (ap (λ W. ran W m) (writes_none c.args.block s (omega arith)) ∙ ran_none m)
-            | else-n-eq0+then-n-eq-ROOM w ↦ ap g.D.Disk.medium w.d-is ∙ w.write-member.ensures ∙ sym (ap (λ W. ran W m) (writes_full c.args.block s (omega arith)))
+            | else-n-eq0+then-n-eq-ROOM w ↦ ap g.D.Disk.medium w.d-is ∙ w.write_member.ensures ∙ sym (ap (λ W. ran W m) (writes_full c.args.block s (omega arith)))
             | else-n-eq0+else-n-eq-ROOM w ↦ ap g.D.Disk.medium w.d-is ∙ sym (ap (λ W. ran W m) (writes_none c.args.block s (omega arith)) ∙ ran_none m)
           ];
       after = cc;

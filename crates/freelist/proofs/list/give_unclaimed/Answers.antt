@@ -23,12 +23,12 @@ give-requires g c =
 
 pub loop-b-preserved : goal.loop-b-preserved
 loop-b-preserved g c =
-    rw (passed_claimed c.args.codes.now c.loop-b.b c.args.hi c.args.sb.now (omega arith) (omega arith) (λ h. c.if-code-of-eq0.false (c.code-of.ensures ∙ h)))
+    rw (passed_claimed c.args.codes.now c.loop-b.b c.args.hi c.args.sb.now (omega arith) (omega arith) (λ h. c.if-code_of-eq0.false (c.code_of.ensures ∙ h)))
     (c.loop-b.invariant.0, c.loop-b.invariant.1, omega arith)
 
-pub loop-b-preserved-then-code-of-eq0 : goal.loop-b-preserved-then-code-of-eq0
-loop-b-preserved-then-code-of-eq0 g c =
-    rw (gave_unclaimed c.args.codes.now c.loop-b.b c.args.hi c.args.sb.now (omega arith) (omega arith) (sym c.code-of.ensures ∙ c.if-code-of-eq0.true)) (
+pub loop-b-preserved-then-code_of-eq0 : goal.loop-b-preserved-then-code_of-eq0
+loop-b-preserved-then-code_of-eq0 g c =
+    rw (gave_unclaimed c.args.codes.now c.loop-b.b c.args.hi c.args.sb.now (omega arith) (omega arith) (sym c.code_of.ensures ∙ c.if-code_of-eq0.true)) (
       rw (c.give.ensures.wrote, c.loop-b.invariant.0, ran_append, c.loop-b.invariant.1),
       rw (c.give.ensures.after, c.loop-b.invariant.1),
       omega arith,

@@ -18,9 +18,9 @@ returns g c =
     let h : member_count (get_or (g.D.Disk.medium c.args.d.now).sectors c.args.block []) ≤ list_room = omega (arith, c.get32-count.ensures, ap member_count c.get.ensures) in
     let e = load_whole (get_or (g.D.Disk.medium c.args.d.now).sectors c.args.block []) c.args.block c.args.member c.args.sb.now h in
     let l =
-    loaded_laid (get_or (g.D.Disk.medium c.args.d.now).sectors c.args.block []) c.get.new.b c.args.sb.now c.copy-from-slice.new.self c.get32-count.result
-    c.get.ensures c.copy-from-slice.ensures.len c.requires.sized c.copy-from-slice.ensures.after c.get32-count.ensures in
+    loaded_laid (get_or (g.D.Disk.medium c.args.d.now).sectors c.args.block []) c.get.new.b c.args.sb.now c.copy_from_slice.new.self c.get32-count.result
+    c.get.ensures c.copy_from_slice.ensures.len c.requires.sized c.copy_from_slice.ensures.after c.get32-count.ensures in
     record {
       result = sym (ap take_answer e);
-      buffer = c.lower-total.ensures ∙ ap lowered c.set-nfree.ensures ∙ l ∙ sym (ap (take_left c.args.sb.now) e);
+      buffer = c.lower_total.ensures ∙ ap lowered c.set_nfree.ensures ∙ l ∙ sym (ap (take_left c.args.sb.now) e);
     }

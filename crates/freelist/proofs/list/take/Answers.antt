@@ -3,15 +3,15 @@ use Rattle.std.proofs.lemmas.Result.{err_from_is_err_and}
 use Rattle.freelist.proofs.Locks.{take_restored, length_restored, took_answer, refused_answer}
 use Rattle.freelist.proofs.list.take.Goals as goal
 
-pub returns-in-err-block : goal.returns-in-err-block
-returns-in-err-block g c =
+pub returns-in_err-block : goal.returns-in_err-block
+returns-in_err-block g c =
     let S = (g.D.Disk.medium c.args.d.now).sectors in
-    let p = err_from_is_err_and c.from-residual.result c.from-residual.ensures.1 in
+    let p = err_from_is_err_and c.from_residual.result c.from_residual.ensures.1 in
     record {
       result =
           rw (p.1, p.2)
           (refused_answer c.args.sizes.isize c.args.sizes.fsize S c.args.member c.lock-guard.result.member c.args.sb.now c.lock-guard.result.buf.now
-          c.requires.sized c.lock-guard.ensures.locked c.lock-guard.ensures.counted c.take.result c.in-err-block.field-0.0 c.in-err-block.was c.take.ensures.result);
+          c.requires.sized c.lock-guard.ensures.locked c.lock-guard.ensures.counted c.take.result c.in_err-block.field-0.0 c.in_err-block.was c.take.ensures.result);
       buffer =
           take_restored c.args.sizes.isize c.args.sizes.fsize S c.args.member c.lock-guard.result.member c.args.sb.now c.lock-guard.result.buf.now
           c.requires.sized c.lock-guard.ensures.locked c.lock-guard.ensures.counted c.take.new.self.buf.now _ c.take.new.self.old c.lock-guard.result.old
@@ -31,8 +31,8 @@ returns g c =
     record {
       result =
           took_answer c.args.sizes.isize c.args.sizes.fsize S c.args.member c.lock-guard.result.member c.args.sb.now c.lock-guard.result.buf.now
-          c.requires.sized c.lock-guard.ensures.locked c.lock-guard.ensures.counted c.take.result c.in-ok-block.block c.take.new.self.member
-          c.in-ok-block.was c.take.ensures.result c.take.ensures.reached;
+          c.requires.sized c.lock-guard.ensures.locked c.lock-guard.ensures.counted c.take.result c.in_ok-block.block c.take.new.self.member
+          c.in_ok-block.was c.take.ensures.result c.take.ensures.reached;
       buffer =
           take_restored c.args.sizes.isize c.args.sizes.fsize S c.args.member c.lock-guard.result.member c.args.sb.now c.lock-guard.result.buf.now
           c.requires.sized c.lock-guard.ensures.locked c.lock-guard.ensures.counted c.take.new.self.buf.now _ c.take.new.self.old c.lock-guard.result.old

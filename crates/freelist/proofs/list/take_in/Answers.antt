@@ -20,46 +20,46 @@ pub returns-then-block-eq0 : goal.returns-then-block-eq0
 returns-then-block-eq0 g c =
     let n : nfree_of c.args.sb.now ≡ 1 = omega arith in
     let i : c.nfree-n.result - 1 ≡ 0 = omega arith in
-    let f = c.free-entry-block.ensures in
+    let f = c.free_entry-block.ensures in
     let j : free_of (c.nfree-n.result - 1) c.args.sb.now ≡ free_of 0 c.args.sb.now = ap (λ (k : ℕ). free_of k c.args.sb.now) i in
     let z : free_of 0 c.args.sb.now ≡ 0 = omega arith in
     let e = ends _ _ c.args.sb.now (take_end c.args.sizes.isize c.args.sizes.fsize (g.D.Disk.medium c.args.d.now).sectors c.args.member c.args.sb.now n z) in
     record { result = e.0; buffer = e.1 }
 
-pub returns-then-not-is-data : goal.returns-then-not-is-data
-returns-then-not-is-data g c =
-    let f : c.free-entry-block.result ≡ free_of (nfree_of c.args.sb.now - 1) c.args.sb.now = c.free-entry-block.ensures ∙ ap (λ (k : ℕ). free_of (k - 1) c.args.sb.now) c.nfree-n.ensures in
-    let z : nfree_of c.args.sb.now ≡ 1 → c.free-entry-block.result ≡ 0 → ⊥ =
+pub returns-then-not-is_data : goal.returns-then-not-is_data
+returns-then-not-is_data g c =
+    let f : c.free_entry-block.result ≡ free_of (nfree_of c.args.sb.now - 1) c.args.sb.now = c.free_entry-block.ensures ∙ ap (λ (k : ℕ). free_of (k - 1) c.args.sb.now) c.nfree-n.ensures in
+    let z : nfree_of c.args.sb.now ≡ 1 → c.free_entry-block.result ≡ 0 → ⊥ =
     λ h y. elim c.else-n-eq1.branch [ else-n-eq1-via-then-n-eq1+else-block-eq0 w ↦ omega arith | else-n-eq1-via-else-n-eq1 w ↦ omega arith ] in
     let e =
     ends _ _ c.args.sb.now
-    (take_bad c.args.sizes.isize c.args.sizes.fsize (g.D.Disk.medium c.args.d.now).sectors c.args.member c.args.sb.now c.free-entry-block.result
-    (omega arith) (omega arith) f z c.if-not-is-data.ensures) in
+    (take_bad c.args.sizes.isize c.args.sizes.fsize (g.D.Disk.medium c.args.d.now).sectors c.args.member c.args.sb.now c.free_entry-block.result
+    (omega arith) (omega arith) f z c.if-not-is_data.ensures) in
     record { result = e.0; buffer = e.1 }
 
 pub returns-then-n-eq1-2 : goal.returns-then-n-eq1-2
 returns-then-n-eq1-2 g c =
-    let z : c.free-entry-block.result ≡ 0 → ⊥ =
+    let z : c.free_entry-block.result ≡ 0 → ⊥ =
     λ y. elim c.else-n-eq1.branch [ else-n-eq1-via-then-n-eq1+else-block-eq0 w ↦ omega arith | else-n-eq1-via-else-n-eq1 w ↦ omega arith ] in
     let e =
-    ends_by _ _ c.args.sb.now c.load-member.new.sb c.load-member.result
-    (take_member_block c.args.sizes.isize c.args.sizes.fsize (g.D.Disk.medium c.args.d.now).sectors c.args.member c.args.sb.now c.free-entry-block.result c.nfree-n.result
-    c.nfree-n.ensures c.if-n-eq1-2.true c.free-entry-block.ensures z c.if-not-is-data.ensures)
-    c.load-member.ensures.result c.load-member.ensures.buffer in
+    ends_by _ _ c.args.sb.now c.load_member.new.sb c.load_member.result
+    (take_member_block c.args.sizes.isize c.args.sizes.fsize (g.D.Disk.medium c.args.d.now).sectors c.args.member c.args.sb.now c.free_entry-block.result c.nfree-n.result
+    c.nfree-n.ensures c.if-n-eq1-2.true c.free_entry-block.ensures z c.if-not-is_data.ensures)
+    c.load_member.ensures.result c.load_member.ensures.buffer in
     record { result = e.0; buffer = e.1 }
 
 pub returns : goal.returns
 returns g c =
-    let f : c.free-entry-block.result ≡ free_of (nfree_of c.args.sb.now - 1) c.args.sb.now = c.free-entry-block.ensures ∙ ap (λ (k : ℕ). free_of (k - 1) c.args.sb.now) c.nfree-n.ensures in
+    let f : c.free_entry-block.result ≡ free_of (nfree_of c.args.sb.now - 1) c.args.sb.now = c.free_entry-block.ensures ∙ ap (λ (k : ℕ). free_of (k - 1) c.args.sb.now) c.nfree-n.ensures in
     let e =
     ends _ _ c.args.sb.now
-    (take_last c.args.sizes.isize c.args.sizes.fsize (g.D.Disk.medium c.args.d.now).sectors c.args.member c.args.sb.now c.free-entry-block.result
-    (omega arith) (omega arith) f c.if-not-is-data.ensures) in
+    (take_last c.args.sizes.isize c.args.sizes.fsize (g.D.Disk.medium c.args.d.now).sectors c.args.member c.args.sb.now c.free_entry-block.result
+    (omega arith) (omega arith) f c.if-not-is_data.ensures) in
     record {
       result = e.0;
       buffer =
-          c.lower-total.ensures
-          ∙ ap lowered c.set-nfree.ensures
+          c.lower_total.ensures
+          ∙ ap lowered c.set_nfree.ensures
           ∙ ap (λ (k : ℕ). lowered (put_num 2 at_nfree (k - 1) c.args.sb.now)) c.nfree-n.ensures
           ∙ e.1;
     }

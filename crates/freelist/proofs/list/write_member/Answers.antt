@@ -7,19 +7,19 @@ use Rattle.freelist.proofs.list.write_member.Goals as goal
 
 pub slice-bounds-put-end : goal.slice-bounds-put-end
 unfolding zeros
-slice-bounds-put-end g c = sym (laid_length c.args.sb.now c.copy-from-slice.new.self c.put32.new.b _ c.copy-from-slice.ensures.after c.requires.sized c.put32.ensures)
+slice-bounds-put-end g c = sym (laid_length c.args.sb.now c.copy_from_slice.new.self c.put32.new.b _ c.copy_from_slice.ensures.after c.requires.sized c.put32.ensures)
 
 pub put-requires : goal.put-requires
 unfolding zeros
 put-requires g c =
     record {
       within = c.requires.there;
-      sized = laid_length c.args.sb.now c.copy-from-slice.new.self c.put32.new.b _ c.copy-from-slice.ensures.after c.requires.sized c.put32.ensures;
+      sized = laid_length c.args.sb.now c.copy_from_slice.new.self c.put32.new.b _ c.copy_from_slice.ensures.after c.requires.sized c.put32.ensures;
     }
 
 pub returns : goal.returns
 unfolding zeros
 returns g c =
     c.put.ensures
-    ∙ ap (λ (x : List ℕ). ran ((c.args.block, put_mid at_entries entries_bytes x c.copy-from-slice.new.self) ∷ []) (g.D.Disk.medium c.args.d.now)) c.put32.ensures
-    ∙ ap (λ (x : List ℕ). ran ((c.args.block, x) ∷ []) (g.D.Disk.medium c.args.d.now)) (member_laid c.args.sb.now c.copy-from-slice.new.self c.copy-from-slice.ensures.after)
+    ∙ ap (λ (x : List ℕ). ran ((c.args.block, put_mid at_entries entries_bytes x c.copy_from_slice.new.self) ∷ []) (g.D.Disk.medium c.args.d.now)) c.put32.ensures
+    ∙ ap (λ (x : List ℕ). ran ((c.args.block, x) ∷ []) (g.D.Disk.medium c.args.d.now)) (member_laid c.args.sb.now c.copy_from_slice.new.self c.copy_from_slice.ensures.after)

@@ -7,7 +7,7 @@ pub loop-s-preserved : goal.loop-s-preserved
 loop-s-preserved g c =
     let S = (g.D.Disk.medium c.args.d.now).sectors in
     let n = c.count-n.ensures.is in
-    fold_next fnv fnv_start S c.loop-s.s [] c.get.new.b c.loop-s.h c.with-bytes-h.result (omega arith) c.loop-s.invariant c.get.ensures c.with-bytes-h.ensures
+    fold_next fnv fnv_start S c.loop-s.s [] c.get.new.b c.loop-s.h c.with_bytes-h.result (omega arith) c.loop-s.invariant c.get.ensures c.with_bytes-h.ensures
 
 pub returns : goal.returns
 returns g c =

@@ -44,7 +44,7 @@ returns c =
     let t = c.args.text.now in
     let i = c.loop-b.b-index in
     let n = c.loop-b.n in
-    let apart = false-eqb (length t) 0 c.if-is-empty.ensures in
+    let apart = false-eqb (length t) 0 c.if-is_empty.ensures in
     let some : 0 < length t = omega arith in
     let e = drop_of_length-le t {i = i} c.loop-b-test.false in
     sym (by_digits t some ∙ sym c.loop-b.invariant.1 ∙ ap (λ (l : List ℕ). more_digits n l) e ∙ no_digit n c.loop-b.invariant.0)

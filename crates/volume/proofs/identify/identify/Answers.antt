@@ -34,7 +34,7 @@ returns c =
     let f = c.fsize-fsize.ensures in
     let k = c.in-Some.ensures.when in
     let l : lawful_sizes (isize_of c.args.sb.now) (fsize_of c.args.sb.now) ≡ true = cc in
-    let e = c.type-fits-fits.ensures in
+    let e = c.type_fits-fits.ensures in
     let v : is_volume c.args.sb.now c.args.n ≡ false =
     elim c.else-fits.branch [
       | else-fits-via-then-fits+else-fsize-n w ↦

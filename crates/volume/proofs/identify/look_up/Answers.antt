@@ -8,7 +8,7 @@ pub returns-then-n-at : goal.returns-then-n-at
 returns-then-n-at g c =
     let n = c.count-n.ensures.is in
     record {
-      answer = ap Err c.beyond-end.ensures ∙ look_beyond (g.D.Disk.medium c.args.d.now).sectors (le-ltb superblock (length (g.D.Disk.medium c.args.d.now).sectors) (omega arith));
+      answer = ap Err c.beyond_end.ensures ∙ look_beyond (g.D.Disk.medium c.args.d.now).sectors (le-ltb superblock (length (g.D.Disk.medium c.args.d.now).sectors) (omega arith));
       buffer = λ h. absurd (omega arith);
     }
 

@@ -18,20 +18,20 @@ joined i f m m₁ m₂ m₃ p q r =
 same_length : (W : List Write) (m m₁ : Medium) → m₁ ≡ ran W m → length m₁.sectors ≡ length m.sectors
 same_length W m m₁ e = ap (λ (x : Medium). length x.sectors) e ∙ length_ran W m
 
-pub write-root-requires : goal.write-root-requires
-write-root-requires g c =
-    let n = same_length (list_writes c.args.sizes.isize (c.args.sizes.isize - first_list_block)) (g.D.Disk.medium c.args.d.now) (g.D.Disk.medium c.write-list.new.d) c.write-list.ensures in
+pub write_root-requires : goal.write_root-requires
+write_root-requires g c =
+    let n = same_length (list_writes c.args.sizes.isize (c.args.sizes.isize - first_list_block)) (g.D.Disk.medium c.args.d.now) (g.D.Disk.medium c.write_list.new.d) c.write_list.ensures in
     record { there = omega arith }
 
-pub write-free-list-requires : goal.write-free-list-requires
-write-free-list-requires g c =
-    let n = same_length (list_writes c.args.sizes.isize (c.args.sizes.isize - first_list_block)) (g.D.Disk.medium c.args.d.now) (g.D.Disk.medium c.write-list.new.d) c.write-list.ensures in
-    let k = same_length ((c.args.sizes.isize, root_block) ∷ []) (g.D.Disk.medium c.write-list.new.d) (g.D.Disk.medium c.write-root.new.d) c.write-root.ensures in
+pub write_free_list-requires : goal.write_free_list-requires
+write_free_list-requires g c =
+    let n = same_length (list_writes c.args.sizes.isize (c.args.sizes.isize - first_list_block)) (g.D.Disk.medium c.args.d.now) (g.D.Disk.medium c.write_list.new.d) c.write_list.ensures in
+    let k = same_length ((c.args.sizes.isize, root_block) ∷ []) (g.D.Disk.medium c.write_list.new.d) (g.D.Disk.medium c.write_root.new.d) c.write_root.ensures in
     record { there = omega arith; sized = c.requires.sized }
 
 pub returns : goal.returns
 returns g c =
     record {
-      wrote = joined c.args.sizes.isize c.args.sizes.fsize (g.D.Disk.medium c.args.d.now) (g.D.Disk.medium c.write-list.new.d) (g.D.Disk.medium c.write-root.new.d) (g.D.Disk.medium c.write-free-list.new.d) c.write-list.ensures c.write-root.ensures c.write-free-list.ensures.wrote;
-      buffer = c.write-free-list.ensures.buffer;
+      wrote = joined c.args.sizes.isize c.args.sizes.fsize (g.D.Disk.medium c.args.d.now) (g.D.Disk.medium c.write_list.new.d) (g.D.Disk.medium c.write_root.new.d) (g.D.Disk.medium c.write_free_list.new.d) c.write_list.ensures c.write_root.ensures c.write_free_list.ensures.wrote;
+      buffer = c.write_free_list.ensures.buffer;
     }

@@ -12,8 +12,8 @@ later : (isize n : ℕ) → (n ≡ 0 → ⊥) → ◌≡◌ {A = List ℕ} (repl
 later isize zero h = absurd (h refl)
 later isize (suc n) h = blank
 
-pub lay-root-inode-requires : goal.lay-root-inode-requires
-lay-root-inode-requires c = record { sized = refl; blank = blank; small = c.requires.small }
+pub lay_root_inode-requires : goal.lay_root_inode-requires
+lay_root_inode-requires c = record { sized = refl; blank = blank; small = c.requires.small }
 
 pub returns-else-n-eq0 : goal.returns-else-n-eq0
 returns-else-n-eq0 c = record { is = later c.args.isize c.args.n c.if-n-eq0.false; sized = refl }

@@ -40,26 +40,26 @@ returns-then-count-fsize g c =
     let a = too_large i f b (length m.sectors) (sym c.in-Some.ensures.when) q in
     record {
       wrote = refused_writes i f (make_answer i f b (length m.sectors)) (beyond (f - 1)) m a;
-      answer = ap refused c.beyond-end.ensures ∙ sym a;
+      answer = ap refused c.beyond_end.ensures ∙ sym a;
       buffer = refused_buffer i f (make_answer i f b (length m.sectors)) (beyond (f - 1)) c.args.buffer.now a;
-      runs = λ e l. absurd (no_refusal c.beyond-end.result e);
+      runs = λ e l. absurd (no_refusal c.beyond_end.result e);
     }
 
-pub returns-then-buffer-ne-BLOCK-BYTES : goal.returns-then-buffer-ne-BLOCK-BYTES
-returns-then-buffer-ne-BLOCK-BYTES g c =
+pub returns-then-buffer-ne-BLOCK_BYTES : goal.returns-then-buffer-ne-BLOCK_BYTES
+returns-then-buffer-ne-BLOCK_BYTES g c =
     let m = g.D.Disk.medium c.args.d.now in
     let i = c.args.isize in
     let f = c.args.fsize in
     let b = length c.args.buffer.now in
     let n = c.count.ensures.is in
     let q : leb f (length m.sectors) ≡ true = le-leb f (length m.sectors) (omega arith) in
-    let e : eqb b block_bytes ≡ false = ne_eqb b block_bytes c.if-buffer-ne-BLOCK-BYTES.true in
+    let e : eqb b block_bytes ≡ false = ne_eqb b block_bytes c.if-buffer-ne-BLOCK_BYTES.true in
     let a = bad_buffer i f b (length m.sectors) (sym c.in-Some.ensures.when) q e in
     record {
       wrote = refused_writes i f (make_answer i f b (length m.sectors)) (keeper BufferSize) m a;
-      answer = ap refused c.refuse-then-buffer-ne-BLOCK-BYTES.ensures ∙ sym a;
+      answer = ap refused c.refuse-then-buffer-ne-BLOCK_BYTES.ensures ∙ sym a;
       buffer = refused_buffer i f (make_answer i f b (length m.sectors)) (keeper BufferSize) c.args.buffer.now a;
-      runs = λ e l. absurd (no_refusal c.refuse-then-buffer-ne-BLOCK-BYTES.result e);
+      runs = λ e l. absurd (no_refusal c.refuse-then-buffer-ne-BLOCK_BYTES.result e);
     }
 
 pub returns : goal.returns
@@ -71,16 +71,16 @@ returns g c =
     let n = c.count.ensures.is in
     let h = c.in-Some.ensures.held in
     let q : leb f (length m.sectors) ≡ true = le-leb f (length m.sectors) (omega arith) in
-    let e : eqb b block_bytes ≡ true = eq-eqb b block_bytes c.if-buffer-ne-BLOCK-BYTES.false in
+    let e : eqb b block_bytes ≡ true = eq-eqb b block_bytes c.if-buffer-ne-BLOCK_BYTES.false in
     let a = accepted_make i f b (length m.sectors) (sym c.in-Some.ensures.when) q e in
-    let laid = c.lay-volume.ensures.wrote in
-    let z = c.lay-volume.ensures.buffer in
-    let u : g.D.Disk.medium c.lay-volume.new.d ≡ ran (make_writes i f) m = cc in
-    let v : c.lay-volume.new.sb ≡ (new_list i f).1 = cc in
-    let w = done_writes i f (make_answer i f b (length m.sectors)) m (g.D.Disk.medium c.lay-volume.new.d) a u in
+    let laid = c.lay_volume.ensures.wrote in
+    let z = c.lay_volume.ensures.buffer in
+    let u : g.D.Disk.medium c.lay_volume.new.d ≡ ran (make_writes i f) m = cc in
+    let v : c.lay_volume.new.sb ≡ (new_list i f).1 = cc in
+    let w = done_writes i f (make_answer i f b (length m.sectors)) m (g.D.Disk.medium c.lay_volume.new.d) a u in
     record {
       wrote = w;
       answer = sym a;
-      buffer = done_buffer i f (make_answer i f b (length m.sectors)) c.args.buffer.now c.lay-volume.new.sb a v;
-      runs = make_starts (record { isize = i; fsize = f }) b m (g.D.Disk.medium c.lay-volume.new.d) done (λ x. c.count.ensures.sized) w (sym a);
+      buffer = done_buffer i f (make_answer i f b (length m.sectors)) c.args.buffer.now c.lay_volume.new.sb a v;
+      runs = make_starts (record { isize = i; fsize = f }) b m (g.D.Disk.medium c.lay_volume.new.d) done (λ x. c.count.ensures.sized) w (sym a);
     }

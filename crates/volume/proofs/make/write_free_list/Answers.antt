@@ -12,26 +12,26 @@ blank : ◌≡◌ {A = List ℕ} (replicate 512 0) (zeros block_bytes)
 unfolding zeros
 blank = refl
 
-pub lay-superblock-requires : goal.lay-superblock-requires
-lay-superblock-requires g c = record { sized = search rules; blank = c.copy-from-slice.ensures.after ∙ blank }
+pub lay_superblock-requires : goal.lay_superblock-requires
+lay_superblock-requires g c = record { sized = search rules; blank = c.copy_from_slice.ensures.after ∙ blank }
 
-pub give-unclaimed-requires : goal.give-unclaimed-requires
-give-unclaimed-requires g c =
+pub give_unclaimed-requires : goal.give_unclaimed-requires
+give_unclaimed-requires g c =
     let b = c.args.sizes.bounds in
     let i = c.isize.ensures in
     let f = c.fsize.ensures in
-    let e = c.empty-list.ensures in
-    let l : length c.lay-superblock.new.sb ≡ block_bytes = search rules in
-    let n : nfree_of (emptied c.lay-superblock.new.sb) ≡ 1 = emptied_count c.lay-superblock.new.sb l in
-    let k : nfree_of c.empty-list.new.sb ≡ 1 = ap nfree_of e ∙ n in
+    let e = c.empty_list.ensures in
+    let l : length c.lay_superblock.new.sb ≡ block_bytes = search rules in
+    let n : nfree_of (emptied c.lay_superblock.new.sb) ≡ 1 = emptied_count c.lay_superblock.new.sb l in
+    let k : nfree_of c.empty_list.new.sb ≡ 1 = ap nfree_of e ∙ n in
     record { sized = search rules; lawful = omega arith; order = omega arith; there = omega arith; small = omega arith }
 
 pub put-requires : goal.put-requires
 put-requires g c =
     let b = c.args.sizes.bounds in
-    let w = c.give-unclaimed.ensures.wrote in
-    let V = (gave_all (unclaimed [] (c.isize.result + 1) (c.fsize.result - (c.isize.result + 1))) c.empty-list.new.sb).0 in
-    let n : length (g.D.Disk.medium c.give-unclaimed.new.d).sectors ≡ length (g.D.Disk.medium c.args.d.now).sectors =
+    let w = c.give_unclaimed.ensures.wrote in
+    let V = (gave_all (unclaimed [] (c.isize.result + 1) (c.fsize.result - (c.isize.result + 1))) c.empty_list.new.sb).0 in
+    let n : length (g.D.Disk.medium c.give_unclaimed.new.d).sectors ≡ length (g.D.Disk.medium c.args.d.now).sectors =
     ap (λ (m : Medium). length m.sectors) w ∙ length_ran V (g.D.Disk.medium c.args.d.now) in
     record { within = omega arith; sized = search rules }
 
@@ -44,14 +44,14 @@ returns g c =
     let i = c.args.sizes.isize in
     let f = c.args.sizes.fsize in
     let m = g.D.Disk.medium c.args.d.now in
-    let s : c.empty-list.new.sb ≡ emptied (bare_superblock i f) = c.empty-list.ensures ∙ ap emptied c.lay-superblock.ensures in
-    let n = new_list_is i f c.empty-list.new.sb s in
+    let s : c.empty_list.new.sb ≡ emptied (bare_superblock i f) = c.empty_list.ensures ∙ ap emptied c.lay_superblock.ensures in
+    let n = new_list_is i f c.empty_list.new.sb s in
     let a = c.isize.ensures in
     let b = c.fsize.ensures in
-    let w = c.give-unclaimed.ensures.wrote in
-    let z = c.give-unclaimed.ensures.after in
+    let w = c.give_unclaimed.ensures.wrote in
+    let z = c.give_unclaimed.ensures.after in
     let p = c.put.ensures in
-    let x : c.give-unclaimed.new.sb ≡ (new_list i f).1 = cc in
-    let y : g.D.Disk.medium c.give-unclaimed.new.d ≡ ran (new_list i f).0 m = cc in
+    let x : c.give_unclaimed.new.sb ≡ (new_list i f).1 = cc in
+    let y : g.D.Disk.medium c.give_unclaimed.new.d ≡ ran (new_list i f).0 m = cc in
     let q : g.D.Disk.medium c.put.new.d ≡ ran ((superblock, (new_list i f).1) ∷ []) (ran (new_list i f).0 m) = cc in
     record { wrote = q ∙ ran_append (new_list i f).0 ((superblock, (new_list i f).1) ∷ []) m; buffer = x }

@@ -7,5 +7,5 @@ blank : ◌≡◌ {A = List ℕ} (replicate 512 0) (zeros block_bytes)
 unfolding zeros
 blank = refl
 
-pub lay-root-cards-requires : goal.lay-root-cards-requires
-lay-root-cards-requires g c = record { sized = refl; blank = blank }
+pub lay_root_cards-requires : goal.lay_root_cards-requires
+lay_root_cards-requires g c = record { sized = refl; blank = blank }

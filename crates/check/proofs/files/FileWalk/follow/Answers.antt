@@ -33,14 +33,14 @@ returns-then-not-meet g c =
     let e = h.scan in
     record { left = cc; turns = omega arith; count = omega arith; unclaimed = omega arith; numbered = record { within = c.requires.numbered.within; begun = c.requires.numbered.begun } }
 
-pub open-table-requires : goal.open-table-requires
-open-table-requires g c = omega (arith, opens_below _ _ _ _ (sym c.if-not-meet.ensures.opens))
+pub open_table-requires : goal.open_table-requires
+open_table-requires g c = omega (arith, opens_below _ _ _ _ (sym c.if-not-meet.ensures.opens))
 
-pub open-table-requires-in-2 : goal.open-table-requires-in-2
-open-table-requires-in-2 g c = omega (arith, opens_below _ _ _ _ (sym c.if-not-meet.ensures.opens))
+pub open_table-requires-in-2 : goal.open_table-requires-in-2
+open_table-requires-in-2 g c = omega (arith, opens_below _ _ _ _ (sym c.if-not-meet.ensures.opens))
 
-pub open-table-requires-in-3 : goal.open-table-requires-in-3
-open-table-requires-in-3 g c = omega (arith, opens_below _ _ _ _ (sym c.if-not-meet.ensures.opens))
+pub open_table-requires-in-3 : goal.open_table-requires-in-3
+open_table-requires-in-3 g c = omega (arith, opens_below _ _ _ _ (sym c.if-not-meet.ensures.opens))
 
 pub returns-in-1 : goal.returns-in-1
 returns-in-1 g c =
@@ -56,7 +56,7 @@ returns-in-1 g c =
     let n = walk_table ss lo hi f.at 0 a s c.if-address-eq0.false (sym h.opens) in
     let o = opened_one ss lo hi f.at f.open.one f.open.two f.open.three (get_or ss a []) (met lo hi 1 BadAddress SecondClaim f.at a s) q0 in
     let e = h.scan in
-    let z = ap (λ (l : Level). l.next) c.open-table.ensures in
+    let z = ap (λ (l : Level). l.next) c.open_table.ensures in
     record { left = cc; turns = omega arith; count = omega arith; unclaimed = omega arith; numbered = record { within = c.requires.numbered.within; begun = c.requires.numbered.begun } }
 
 pub returns-in-2 : goal.returns-in-2
@@ -74,7 +74,7 @@ returns-in-2 g c =
     let n = walk_table ss lo hi f.at 1 a s c.if-address-eq0.false (sym h.opens) in
     let o = opened_two ss lo hi f.at f.open.one f.open.two f.open.three (get_or ss a []) (met lo hi 1 BadAddress SecondClaim f.at a s) q0 q1 in
     let e = h.scan in
-    let z = ap (λ (l : Level). l.next) c.open-table-in-2.ensures in
+    let z = ap (λ (l : Level). l.next) c.open_table-in-2.ensures in
     record { left = cc; turns = omega arith; count = omega arith; unclaimed = omega arith; numbered = record { within = c.requires.numbered.within; begun = c.requires.numbered.begun } }
 
 pub returns-in-3 : goal.returns-in-3
@@ -93,7 +93,7 @@ returns-in-3 g c =
     let n = walk_table ss lo hi f.at 2 a s c.if-address-eq0.false (sym h.opens) in
     let o = opened_three ss lo hi f.at f.open.one f.open.two f.open.three (get_or ss a []) (met lo hi 1 BadAddress SecondClaim f.at a s) q0 q1 q2 in
     let e = h.scan in
-    let z = ap (λ (l : Level). l.next) c.open-table-in-3.ensures in
+    let z = ap (λ (l : Level). l.next) c.open_table-in-3.ensures in
     record { left = cc; turns = omega arith; count = omega arith; unclaimed = omega arith; numbered = record { within = c.requires.numbered.within; begun = c.requires.numbered.begun } }
 
 pub returns-in-default : goal.returns-in-default

@@ -5,8 +5,8 @@ use Rattle.scan.proofs.Members.{left_none, member_full, member_is}
 use Rattle.tally.specs.Tallies.{scan_of}
 use Rattle.check.proofs.list.ListWalk.enter.Goals as goal
 
-pub returns-then-count-gt-LIST-ROOM : goal.returns-then-count-gt-LIST-ROOM
-returns-then-count-gt-LIST-ROOM g c =
+pub returns-then-count-gt-LIST_ROOM : goal.returns-then-count-gt-LIST_ROOM
+returns-then-count-gt-LIST_ROOM g c =
     let l = c.args.self.now in
     let ss = (g.D.Disk.medium c.args.disk.now).sectors in
     let lo = c.args.sizes.isize in
@@ -23,8 +23,8 @@ returns-then-count-gt-LIST-ROOM g c =
       count = omega arith;
     }
 
-pub returns-else-count-gt-LIST-ROOM : goal.returns-else-count-gt-LIST-ROOM
-returns-else-count-gt-LIST-ROOM g c =
+pub returns-else-count-gt-LIST_ROOM : goal.returns-else-count-gt-LIST_ROOM
+returns-else-count-gt-LIST_ROOM g c =
     let l = c.args.self.now in
     let ss = (g.D.Disk.medium c.args.disk.now).sectors in
     let lo = c.args.sizes.isize in

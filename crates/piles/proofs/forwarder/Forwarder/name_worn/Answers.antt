@@ -7,16 +7,16 @@ use Rattle.piles.proofs.forwarder.Forwarder.name_worn.Goals as goal
 pub invariant-of-self : goal.invariant-of-self
 invariant-of-self g c =
     let few = lawful_few c.count-count.result c.args.worn.now (sym c.lawful.ensures ∙ c.if-not-lawful.false) in
-    let e = ap length c.copy-from-slice.ensures.after in
+    let e = ap length c.copy_from_slice.ensures.after in
     ((few, simp (length-append, length-drop) (omega arith)), tt)
 
 pub returns : goal.returns
 returns g c =
     let y : is_lawful (length (g.D.Disk.medium c.args.self.now.below).sectors) c.args.worn.now ≡ true =
     ap (λ (n : ℕ). is_lawful n c.args.worn.now) (sym c.count-count.ensures.is) ∙ sym c.lawful.ensures ∙ c.if-not-lawful.false in
-    let e = ap length c.copy-from-slice.ensures.after in
+    let e = ap length c.copy_from_slice.ensures.after in
     record {
       result = rw y;
-      list = rw y (take_at c.copy-from-slice.new.self (drop (length c.args.worn.now) c.args.self.now.worn) (length c.args.worn.now) (omega arith) ∙ c.copy-from-slice.ensures.after);
+      list = rw y (take_at c.copy_from_slice.new.self (drop (length c.args.worn.now) c.args.self.now.worn) (length c.args.worn.now) (omega arith) ∙ c.copy_from_slice.ensures.after);
       over = refl;
     }

@@ -6,14 +6,14 @@ use Rattle.disk.proofs.Served.{counted, admitted, refused_same}
 use Rattle.piles.proofs.Homes.{length_forwarded, through_answer, through_write}
 use Rattle.piles.proofs.forwarder.ForwarderDisk.write.Goals as goal
 
-pub returns-in-err-admit : goal.returns-in-err-admit
-returns-in-err-admit g c =
+pub returns-in_err-admit : goal.returns-in_err-admit
+returns-in_err-admit g c =
     let ws = take c.args.self.now.used c.args.self.now.worn in
     let m = g.D.Disk.medium c.args.self.now.below in
     let r : length (take c.args.self.now.used c.args.self.now.worn) ≡ c.args.self.now.used = length-take-le c.args.self.now.used c.args.self.now.worn (omega arith) in
-    let n : c.saturating-sub-n.result ≡ length (forwarded ws m.sectors) = rw (length_forwarded ws m.sectors, r) (omega arith) in
-    let p = err_from_is_err_and c.from-residual.result c.from-residual.ensures.1 in
-    let e = counted (length c.args.buf.now) c.args.s c.saturating-sub-n.result (length (forwarded ws m.sectors)) (Err c.in-err-admit.field-0.0) n c.in-err-admit.ensures in
+    let n : c.saturating_sub-n.result ≡ length (forwarded ws m.sectors) = rw (length_forwarded ws m.sectors, r) (omega arith) in
+    let p = err_from_is_err_and c.from_residual.result c.from_residual.ensures.1 in
+    let e = counted (length c.args.buf.now) c.args.s c.saturating_sub-n.result (length (forwarded ws m.sectors)) (Err c.in_err-admit.field-0.0) n c.in_err-admit.ensures in
     record {
       result = rw (p.1, p.2) e;
       after = refused_same (length c.args.buf.now) c.args.s (length (forwarded ws m.sectors)) _ _ (forward ws m) e;
@@ -24,10 +24,10 @@ returns g c =
     let ws = take c.args.self.now.used c.args.self.now.worn in
     let m = g.D.Disk.medium c.args.self.now.below in
     let r : length (take c.args.self.now.used c.args.self.now.worn) ≡ c.args.self.now.used = length-take-le c.args.self.now.used c.args.self.now.worn (omega arith) in
-    let n : c.saturating-sub-n.result ≡ length (g.D.Disk.medium c.args.self.now.below).sectors - length (take c.args.self.now.used c.args.self.now.worn) = omega arith in
-    let a = admitted (length c.args.buf.now) c.args.s (length m.sectors - length ws) (counted (length c.args.buf.now) c.args.s c.saturating-sub-n.result (length m.sectors - length ws) (Ok tt) n c.in-ok-admit.ensures) in
-    let at : c.home-of.result ≡ home ws (length m.sectors - length ws) c.args.s = c.home-of.ensures ∙ ap (λ (k : ℕ). home ws k c.args.s) n in
+    let n : c.saturating_sub-n.result ≡ length (g.D.Disk.medium c.args.self.now.below).sectors - length (take c.args.self.now.used c.args.self.now.worn) = omega arith in
+    let a = admitted (length c.args.buf.now) c.args.s (length m.sectors - length ws) (counted (length c.args.buf.now) c.args.s c.saturating_sub-n.result (length m.sectors - length ws) (Ok tt) n c.in_ok-admit.ensures) in
+    let at : c.home_of.result ≡ home ws (length m.sectors - length ws) c.args.s = c.home_of.ensures ∙ ap (λ (k : ℕ). home ws k c.args.s) n in
     record {
-      result = c.write.ensures.result ∙ through_answer ws m (length c.args.buf.now) c.args.s c.home-of.result a.0 a.1 at;
-      after = ap (forward ws) c.write.ensures.after ∙ through_write ws m (length c.args.buf.now) c.args.s c.home-of.result a.0 a.1 at c.args.buf.now;
+      result = c.write.ensures.result ∙ through_answer ws m (length c.args.buf.now) c.args.s c.home_of.result a.0 a.1 at;
+      after = ap (forward ws) c.write.ensures.after ∙ through_write ws m (length c.args.buf.now) c.args.s c.home_of.result a.0 a.1 at c.args.buf.now;
     }

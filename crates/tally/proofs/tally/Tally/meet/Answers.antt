@@ -16,14 +16,14 @@ returns-then-address-isize c =
     let q = c.refuse.ensures.scan c.args.codes.now in
     search rules
 
-pub returns-then-code-of-ne0 : goal.returns-then-code-of-ne0
-returns-then-code-of-ne0 c =
+pub returns-then-code_of-ne0 : goal.returns-then-code_of-ne0
+returns-then-code_of-ne0 c =
     let l : c.args.sizes.isize ≤ c.args.address = omega arith in
     let r : c.args.address < c.args.sizes.fsize = omega arith in
     let n : get_or c.args.codes.now c.args.address 0 ≡ 0 → ⊥ = search rules in
     let o = opens_again c.args.sizes.isize c.args.sizes.fsize c.args.address c.args.codes.now n in
     let t = met_again _ _ c.args.claim.code c.args.claim.bad c.args.claim.again c.args.claim.place c.args.address (scan_of c.args.self.now c.args.codes.now c.args.findings.now) l r n in
-    let q = c.refuse-then-code-of-ne0.ensures.scan c.args.codes.now in
+    let q = c.refuse-then-code_of-ne0.ensures.scan c.args.codes.now in
     search rules
 
 pub returns : goal.returns
