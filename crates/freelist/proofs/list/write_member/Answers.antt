@@ -5,9 +5,9 @@ use Rattle.freelist.specs.Bytes.{zeros, at_entries, entries_bytes}
 use Rattle.freelist.proofs.Coded.{member_laid, laid_length}
 use Rattle.freelist.proofs.list.write_member.Goals as goal
 
-pub slice-bounds-put-end : goal.slice-bounds-put-end
+pub slice_bounds-put-end : goal.slice_bounds-put-end
 unfolding zeros
-slice-bounds-put-end g c = sym (laid_length c.args.sb.now c.copy_from_slice.new.self c.put32.new.b _ c.copy_from_slice.ensures.after c.requires.sized c.put32.ensures)
+slice_bounds-put-end g c = sym (laid_length c.args.sb.now c.copy_from_slice.new.self c.put32.new.b _ c.copy_from_slice.ensures.after c.requires.sized c.put32.ensures)
 
 pub put-requires : goal.put-requires
 unfolding zeros

@@ -4,11 +4,11 @@ use Rattle.piles.specs.Forward.{is_lawful}
 use Rattle.piles.proofs.Homes.{lawful_few}
 use Rattle.piles.proofs.forwarder.Forwarder.name_worn.Goals as goal
 
-pub invariant-of-self : goal.invariant-of-self
-invariant-of-self g c =
+pub invariant_of-self : goal.invariant_of-self
+invariant_of-self g c =
     let few = lawful_few c.count-count.result c.args.worn.now (sym c.lawful.ensures ∙ c.if-not-lawful.false) in
     let e = ap length c.copy_from_slice.ensures.after in
-    ((few, simp (length-append, length-drop) (omega arith)), tt)
+    record { few = (few, simp (length-append, length-drop) (omega arith)); }
 
 pub returns : goal.returns
 returns g c =
