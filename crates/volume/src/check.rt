@@ -7,7 +7,7 @@ ghost use Rattle.volume.specs.Answers.{looked_up, check_says, sizes_of};
 
 use crate::held::Volume;
 use crate::identify::{look_up, refuse};
-use check::run::run_check;
+use checking::run::run_check;
 use disk::disk::Disk;
 use fault::fault::Fault;
 use fault::finding::Finding;

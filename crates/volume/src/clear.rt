@@ -8,7 +8,7 @@ ghost use Rattle.volume.specs.Answers.{looked_up, clear_says, make_says, cleared
 use crate::check::may_check;
 use crate::held::{Clear, Found};
 use crate::identify::refuse;
-use check::run::run_check;
+use checking::run::run_check;
 use disk::disk::Disk;
 use fault::fault::Fault;
 use fault::finding::Finding;

@@ -7,11 +7,11 @@ use Rattle.volume.proofs.Volumes.{if_false, if_true, volume_by, no_sizes, no_typ
 use Rattle.volume.proofs.identify.identify.Goals as goal
 use Rattle.volume.proofs.identify.identify.Goals.{else-fits-via-then-fits+else-fsize-n, else-fits-via-else-fits}
 
-pub returns-in-default : goal.returns-in-default
-returns-in-default c =
+pub returns-in_default : goal.returns-in_default
+returns-in_default c =
     let i = c.isize-isize.ensures in
     let f = c.fsize-fsize.ensures in
-    let k = c.in-default.ensures.held in
+    let k = c.in_default.ensures.held in
     let l : lawful_sizes (isize_of c.args.sb.now) (fsize_of c.args.sb.now) ≡ false = cc in
     if_false _ _ _ _ (no_sizes c.args.sb.now c.args.n l) (ap Err c.refuse.ensures)
 

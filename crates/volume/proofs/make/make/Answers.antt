@@ -15,13 +15,13 @@ use Rattle.volume.proofs.make.make.Goals as goal
 no_refusal : (f : Fault) → refused f ≡ done → ⊥
 no_refusal f e = let z : ◌≡◌ {A = ℕ} 0 1 = cc in omega arith
 
-pub returns-in-default : goal.returns-in-default
-returns-in-default g c =
+pub returns-in_default : goal.returns-in_default
+returns-in_default g c =
     let m = g.D.Disk.medium c.args.d.now in
     let i = c.args.isize in
     let f = c.args.fsize in
     let b = length c.args.buffer.now in
-    let a = unlawful i f b (length m.sectors) c.in-default.ensures.held in
+    let a = unlawful i f b (length m.sectors) c.in_default.ensures.held in
     record {
       wrote = refused_writes i f (make_answer i f b (length m.sectors)) (keeper MakeSizes) m a;
       answer = ap refused c.refuse.ensures ∙ sym a;
