@@ -1,5 +1,5 @@
 -- The open tables: one entry further, closed, and one opened anew.
-use Rattle.std.proofs.Common.{◌≡◌, ℕ, ◌+◌, ◌<◌, ◌≤◌, List, [], sym, refl, ap, ◌∙◌, arith}
+use Rattle.std.proofs.Common.{◌≡◌, ℕ, ◌+◌, ◌<◌, ◌≤◌, List, sym, ap, ◌∙◌}
 use Rattle.disk.specs.Medium.{Sectors}
 use Rattle.fault.specs.declared.place.Place.{Place}
 use Rattle.format.specs.Layout.{table_width}
@@ -7,7 +7,7 @@ use Rattle.verdict.specs.Scan.{Scan, walk, table_entry, entries}
 use Rattle.scan.proofs.Turns.{entries_more, entries_done}
 use Rattle.checking.specs.declared.level.Level.{Level}
 use Rattle.checking.specs.declared.level.Open.{Open}
-use Rattle.checking.specs.FilesLeft.{open_left, Shut}
+use Rattle.checking.specs.FilesLeft.{open_left}
 
 -- a table with its next entry taken, and a table at its start
 abbrev pub ahead : Level → Level

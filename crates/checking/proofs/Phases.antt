@@ -1,5 +1,5 @@
 -- What is left, by the phase and by what was met, where these are known; and the turns between phases.
-use Rattle.std.proofs.Common.{◌≡◌, ℕ, ◌+◌, ◌-◌, ◌*◌, ◌<◌, ◌≤◌, List, [], sym, refl, ap, ◌∙◌, subst, arith}
+use Rattle.std.proofs.Common.{◌≡◌, ℕ, ◌+◌, ◌-◌, ◌<◌, ◌≤◌, sym, ap, ◌∙◌, subst, arith}
 use Rattle.disk.specs.Medium.{Sectors}
 use Rattle.format.specs.Layout.{superblock}
 use Rattle.verdict.specs.Scan.{Scan, Report, free_list, survey, nothing, report}

@@ -2,7 +2,7 @@
 use Rattle.std.specs.Prelude.{ℕ, List, ◌++◌, drop}
 use Rattle.fault.specs.declared.finding.Finding.{Finding}
 use Rattle.disk.specs.Medium.{Sectors}
-use Rattle.verdict.specs.Scan.{Scan, Log, shown, files}
+use Rattle.verdict.specs.Scan.{Scan, shown, files}
 use Rattle.verdict.specs.Verdict.{findings_in, blank}
 
 -- a scan that starts at some codes, with a list that shows no finding yet

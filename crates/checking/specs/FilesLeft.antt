@@ -1,5 +1,5 @@
 -- What a walk through the files has left to do, and what it may still cost.
-use Rattle.std.specs.Prelude.{◌≡◌, ℕ, ◌+◌, ◌-◌, ◌*◌, ◌<◌, ◌≤◌, List, [], slice_index_or}
+use Rattle.std.specs.Prelude.{ℕ, ◌+◌, ◌-◌, ◌*◌, ◌<◌, ◌≤◌, List, [], slice_index_or}
 use Rattle.fault.specs.declared.place.Place.{Place}
 use Rattle.disk.specs.Medium.{Sectors}
 use Rattle.format.specs.Layout.{table_width, slots}
@@ -7,7 +7,6 @@ use Rattle.format.specs.Inode.{block_of_inode}
 use Rattle.format.specs.Sizes.{inodes_of}
 use Rattle.verdict.specs.Scan.{Scan, walk, entries, slots_from, inode, files}
 use Rattle.tally.specs.Tallies.{unclaimed}
-use Rattle.checking.specs.declared.level.Level.{Level}
 use Rattle.checking.specs.declared.level.Open.{Open}
 use Rattle.checking.specs.declared.met.Met.{Met}
 use Rattle.checking.specs.declared.met.Met.TheVariants.{Address, Inode, Entry, Block, End}

@@ -1,5 +1,5 @@
 -- What the check has left to do, from wherever its walk stands.
-use Rattle.std.specs.Prelude.{◌≡◌, ℕ, ◌+◌, ◌-◌, ◌<◌, ◌≤◌, List, Some, None, Option, slice_index}
+use Rattle.std.specs.Prelude.{ℕ, ◌+◌, ◌-◌, ◌<◌, List, Some, None, Option, slice_index}
 use Rattle.disk.specs.Medium.{Sectors}
 use Rattle.format.specs.Layout.{list_room}
 use Rattle.verdict.specs.Scan.{Scan, Report, free_list, report, survey, counted}

@@ -1,6 +1,6 @@
 -- Calls one after another.
-use Rattle.std.proofs.Common.{◌≡◌, List, [], ◌∷◌, ◌++◌, sym, refl, ap, ◌∙◌}
-use Rattle.disk.specs.Medium.{Power, Sectors, Write, Medium, after, Lasts, ran, spent}
+use Rattle.std.proofs.Common.{◌≡◌, List, [], sym, ap, ◌∙◌}
+use Rattle.disk.specs.Medium.{Sectors, Write, Medium, after, Lasts, ran, spent}
 use Rattle.disk.specs.Calls.{Call, Did, bind}
 use Rattle.disk.proofs.Writes.{ran_joined, ran_all, ran_none, ran_power, lasts_left, lasts_right}
 

@@ -1,5 +1,5 @@
 -- What follows from a disk's answer.
-use Rattle.std.proofs.Common.{◌≡◌, ℕ, ◌<◌, Bool, true, false, cond, eqb, ltb, Ok, Err, Result, sym, refl, ap, ◌∙◌, arith, ltb-true, lt-ltb, eq-eqb, eqb-true}
+use Rattle.std.proofs.Common.{◌≡◌, ℕ, ◌<◌, Bool, true, false, cond, eqb, ltb, Ok, Err, Result, refl, arith, ltb-true, lt-ltb, eqb-true}
 use Rattle.fault.specs.declared.fault.Fault.{Fault}
 use Rattle.fault.specs.Refusals.{disk_buffer, beyond}
 use Rattle.disk.specs.Medium.{sector_bytes}

@@ -1,6 +1,6 @@
 -- Calls: what a call writes and answers, by the sectors at its entry; and what its contract says of a disk.
-use Rattle.std.specs.Prelude.{◌≡◌, ℕ, List, [], ◌∷◌, ◌++◌}
-use Rattle.disk.specs.Medium.{Power, Sectors, Write, Medium, after, Lasts, ran}
+use Rattle.std.specs.Prelude.{◌≡◌, List, ◌++◌}
+use Rattle.disk.specs.Medium.{Sectors, Write, Medium, after, Lasts, ran}
 
 -- the writes in order, and the answer
 abbrev pub Call : Type 0 → Type 0

@@ -1,5 +1,5 @@
 -- What a disk answers.
-use Rattle.std.specs.Prelude.{ℕ, Bool, true, false, cond, Ok, Err, Result, ◌==◌, nat_lt}
+use Rattle.std.specs.Prelude.{ℕ, Bool, false, cond, Ok, Err, Result, ◌==◌, nat_lt}
 use Rattle.fault.specs.declared.fault.Fault.{Fault}
 use Rattle.fault.specs.Refusals.{disk_buffer, beyond}
 use Rattle.disk.specs.Medium.{sector_bytes}

@@ -1,5 +1,5 @@
 -- A disk's meaning: its sectors and its power. What an ordered list of sector writes does to it.
-use Rattle.std.specs.Prelude.{◌≡◌, ℕ, zero, suc, ◌+◌, ◌-◌, ◌<◌, ◌≤◌, min, List, [], ◌∷◌, ◌++◌, length, take, slice_index_or, slice_set}
+use Rattle.std.specs.Prelude.{◌≡◌, ℕ, ◌-◌, ◌<◌, ◌≤◌, min, List, [], ◌∷◌, ◌++◌, length, take, slice_index_or, slice_set}
 
 -- the bytes of a sector
 abbrev pub sector_bytes : ℕ

@@ -1,6 +1,6 @@
 -- Where inodes lie, their fields by the bytes of their block, and the rule of types. Inodes are numbered from 1.
 use Rattle.std.specs.Prelude.{ℕ, ◌+◌, ◌-◌, ◌*◌, ◌/◌, ◌%◌, Bool, true, false, cond, List, ◌==◌}
-use Rattle.numbers.specs.Numbers.{num, put_num}
+use Rattle.numbers.specs.Numbers.{num}
 use Rattle.format.specs.Layout.{first_list_block, inodes_per_block, inode_bytes}
 use Rattle.format.specs.declared.inode.InodeType.{InodeType}
 use Rattle.format.specs.declared.inode.InodeType.TheVariants.{Unused, Regular, Directory, Special, Unknown}

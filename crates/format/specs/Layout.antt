@@ -1,5 +1,5 @@
 -- The numbers of the layout, each in one place.
-use Rattle.std.specs.Prelude.{ℕ, ◌+◌, ◌-◌, ◌*◌}
+use Rattle.std.specs.Prelude.{ℕ, ◌-◌}
 use Rattle.disk.specs.Medium.{sector_bytes}
 
 -- a block is one sector

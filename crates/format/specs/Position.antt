@@ -1,6 +1,6 @@
 -- The way to a position of a file: the slot that it goes through, and its index in every table from there on.
 use Rattle.std.specs.Prelude.{ℕ, ◌+◌, ◌-◌, ◌*◌, ◌/◌, ◌%◌, cond, List, [], ◌∷◌, take, Some, None, Option, nat_lt}
-use Rattle.format.specs.Layout.{table_width, direct_slots, depth_of}
+use Rattle.format.specs.Layout.{table_width, direct_slots}
 
 -- where the positions of slots 11 and 12 begin, and where all end
 abbrev pub end_of_one : ℕ

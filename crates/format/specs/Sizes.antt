@@ -1,5 +1,5 @@
 -- The sizes of a volume.
-use Rattle.std.specs.Prelude.{ℕ, ◌-◌, ◌*◌, ◌<◌, ◌≤◌, Bool, true, false, cond, nat_le, nat_lt}
+use Rattle.std.specs.Prelude.{ℕ, ◌-◌, ◌*◌, ◌<◌, ◌≤◌, Bool, false, cond, nat_le, nat_lt}
 use Rattle.format.specs.Layout.{first_list_block, inodes_per_block}
 
 -- the first data block, which ends the i-list, and the end of the data blocks

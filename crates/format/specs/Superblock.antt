@@ -1,6 +1,6 @@
 -- The fields of the superblock, by its bytes.
 use Rattle.std.specs.Prelude.{ℕ, ◌+◌, ◌*◌, Bool, true, cond, List, ◌==◌, slice_index}
-use Rattle.numbers.specs.Numbers.{num, put_num}
+use Rattle.numbers.specs.Numbers.{num}
 
 -- where the fields begin
 abbrev pub at_isize : ℕ

@@ -1,13 +1,12 @@
 -- What the code does with the bytes: parts copied, members laid down, and the lock.
-use Rattle.std.proofs.Common.{◌≡◌, ℕ, zero, suc, ◌+◌, ◌-◌, ◌*◌, ◌<◌, ◌≤◌, min, Bool, true, false, cond, ◌≢◌, ◌⊎◌, List, [], ◌∷◌, ◌++◌, length, get_or, take, drop, set, replicate, sym, refl, ap, ◌∙◌, subst, inl, inr, ⊎_elim, arith, length-append, length-drop, length-set, length-take, drop-drop}
+use Rattle.std.proofs.Common.{◌≡◌, ℕ, ◌+◌, ◌-◌, ◌≤◌, List, [], ◌∷◌, ◌++◌, length, take, drop, replicate, refl, ap, ◌∙◌, arith, drop-drop}
 use borrow.Rule.Slice.PartMut.{put_mid}
 use lib.ListN.{length-replicate}
 use Rattle.std.proofs.lemmas.List.{take-replicate, drop-replicate}
-use Rattle.disk.specs.Medium.{Medium, Write, ran}
-use Rattle.numbers.specs.Numbers.{num, put_num, nums}
+use Rattle.numbers.specs.Numbers.{put_num}
 use Rattle.numbers.proofs.Numbers.{put_length}
 use Rattle.format.specs.Layout.{block_bytes, list_room}
-use Rattle.format.specs.Superblock.{at_nfree, at_free, at_tfree, at_flock, nfree_of, free_at, tfree_of, flock_of}
+use Rattle.format.specs.Superblock.{at_nfree, at_free, nfree_of}
 use Rattle.freelist.proofs.Gives.{length_zeros, length_entries}
 use Rattle.freelist.proofs.Takings.{length_put_bytes}
 use Rattle.freelist.specs.Bytes.{zeros, member_bytes, at_entries, entries_bytes, superblock_entries, member_entries, member_count, put_bytes, lowered, loaded, grounded, give_index, with_entry, raised, give_bytes}

@@ -1,16 +1,15 @@
 -- A give in the bytes of the superblock is a give over pages.
-use Rattle.std.proofs.Common.{◌≡◌, ℕ, zero, suc, ◌+◌, ◌-◌, ◌*◌, ◌^◌, ◌<◌, ◌≤◌, min, Bool, true, false, cond, eqb, ◌≢◌, ◌⊎◌, List, [], ◌∷◌, ◌++◌, length, get_or, take, drop, set, replicate, sym, refl, ap, ◌∙◌, inl, inr, ⊎_elim, arith, length-append, length-drop, length-set, length-take, eq-eqb, ne_eqb, eqb-true}
-use borrow.Author.Tests.{eqb-false}
+use Rattle.std.proofs.Common.{◌≡◌, ℕ, zero, suc, ◌+◌, ◌-◌, ◌<◌, ◌≤◌, min, true, false, cond, eqb, ◌≢◌, List, [], ◌∷◌, ◌++◌, length, get_or, drop, set, sym, refl, ap, ◌∙◌, inl, inr, ⊎_elim, arith, length-append, length-drop, length-take, eq-eqb, ne_eqb}
 use lib.ListN.{length-replicate}
-use Rattle.std.proofs.lemmas.Bool.{cases_eq, cases_lt, cases_Bool}
+use Rattle.std.proofs.lemmas.Bool.{cases_eq, cases_Bool}
 use Rattle.std.proofs.lemmas.List.{get_or_append_left, get_or-append-add, get_or-take, get_or-drop}
 use Rattle.numbers.specs.Numbers.{num, put_num, nums}
 use Rattle.numbers.specs.Laws.{Apart}
 use Rattle.numbers.proofs.Numbers.{put_length, num_put, num_apart, num_append_left, nums_apart, nums_put, nums_ext, apart}
 use Rattle.format.specs.Layout.{block_bytes, list_room}
-use Rattle.format.specs.Superblock.{at_nfree, at_free, at_tfree, at_flock, nfree_of, free_at, free_of, tfree_of}
-use Rattle.freelist.specs.Stack.{Page, Free, given, given_page, opened, pushed, most_total}
-use Rattle.freelist.specs.Bytes.{zeros, member_page, member_bytes, member_count, at_entries, entries_bytes, superblock_entries, free_list_of, grounded, give_index, with_entry, raised, give_bytes, give_writes}
+use Rattle.format.specs.Superblock.{at_nfree, at_free, at_tfree, nfree_of, free_at, tfree_of}
+use Rattle.freelist.specs.Stack.{given, given_page, opened, most_total}
+use Rattle.freelist.specs.Bytes.{zeros, member_page, member_bytes, member_count, at_entries, entries_bytes, superblock_entries, free_list_of, grounded, give_index, with_entry, give_bytes, give_writes}
 
 -- where the block goes
 pub index_none : (n : ℕ) → n ≡ 0 → give_index n ≡ 1

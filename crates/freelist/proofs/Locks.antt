@@ -1,21 +1,18 @@
 -- The lock byte stands apart from the list: taking and giving under the lock is taking and giving.
-use Rattle.std.proofs.Common.{◌≡◌, ℕ, zero, suc, ◌+◌, ◌-◌, ◌*◌, ◌<◌, ◌≤◌, min, Bool, true, false, cond, eqb, ltb, ◌≢◌, ◌⊎◌, List, [], ◌∷◌, ◌++◌, length, get_or, take, drop, set, Ok, Err, Result, sym, refl, ap, ◌∙◌, subst, inl, inr, ⊎_elim, arith, length-set, length-take, take-add, set-set}
+use Rattle.std.proofs.Common.{◌≡◌, ℕ, zero, suc, ◌+◌, ◌-◌, ◌<◌, ◌≤◌, min, Bool, true, false, cond, eqb, ltb, List, [], ◌++◌, length, get_or, take, drop, set, Ok, Err, Result, sym, refl, ap, ◌∙◌, inl, inr, ⊎_elim, arith, length-set, length-take, set-set}
 use lib.Seq.{set-get_or, take-set-le, drop-set-add}
 use Rattle.std.proofs.lemmas.Bool.{cases_eq, cases_Bool, ltb-false}
 use Rattle.std.proofs.lemmas.List.{set-append_right}
 use Rattle.fault.specs.declared.fault.ListFault.{ListFault}
-use Rattle.fault.specs.declared.fault.ListFault.TheVariants.{Bad, Empty}
 use Rattle.disk.specs.Medium.{Sectors, Medium, ran}
-use Rattle.numbers.specs.Numbers.{num, put_num, nums}
-use Rattle.numbers.proofs.Numbers.{put_length, num_set, put_set, apart}
+use Rattle.numbers.specs.Numbers.{put_num}
+use Rattle.numbers.proofs.Numbers.{num_set, put_set, apart}
 use Rattle.format.specs.Layout.{block_bytes, list_room}
 use Rattle.format.specs.Superblock.{at_nfree, at_free, at_tfree, at_flock, nfree_of, free_at, free_of, tfree_of, flock_of}
 use Rattle.freelist.specs.Stack.{is_data, most_total}
-use Rattle.freelist.specs.Bytes.{Taken, took, refused, member_bytes, member_count, member_entries, superblock_entries, at_entries, entries_bytes, put_bytes, grounded, give_index, with_entry, raised, give_bytes, give_writes, lowered, loaded, load_bytes, take_first_bytes, take_entry_bytes, take_bytes}
-use Rattle.freelist.proofs.Gives.{index_low, grounded_none, grounded_some, writes_full, writes_none}
-use Rattle.freelist.specs.declared.list.TakenBlock.{TakenBlock}
+use Rattle.freelist.specs.Bytes.{Taken, took, refused, member_bytes, member_count, member_entries, superblock_entries, at_entries, entries_bytes, put_bytes, grounded, give_index, with_entry, raised, give_bytes, give_writes, lowered, loaded, load_bytes, take_entry_bytes, take_bytes}
+use Rattle.freelist.proofs.Gives.{index_low, grounded_none, grounded_some}
 use Rattle.freelist.specs.Answers.{take_answer, block_answer, take_left, take_member}
-use Rattle.freelist.specs.Laws.{SameElsewhere}
 use Rattle.freelist.proofs.Takings.{Keeps, take_keeps}
 use Rattle.freelist.proofs.Stands.{give_same}
 

@@ -1,7 +1,6 @@
 -- The loop that gives the unclaimed blocks, the highest first.
-use Rattle.std.proofs.Common.{◌≡◌, ℕ, zero, suc, ◌+◌, ◌-◌, ◌<◌, ◌≤◌, true, false, cond, eqb, List, [], ◌∷◌, ◌++◌, length, get_or, sym, refl, ap, ◌∙◌, arith}
+use Rattle.std.proofs.Common.{◌≡◌, ℕ, suc, ◌-◌, ◌<◌, ◌≤◌, List, [], ◌++◌, get_or, arith}
 use Rattle.std.proofs.lemmas.Bool.{eq-eqb, ne_eqb}
-use Rattle.disk.specs.Medium.{Write}
 use Rattle.freelist.specs.Bytes.{give_bytes, give_writes, gave_all, unclaimed}
 
 pub given_none : (codes : List ℕ) (hi : ℕ) (s : List ℕ) → gave_all (unclaimed codes hi (hi - hi)) s ≡ ([], s)

@@ -1,10 +1,10 @@
 -- The free list over pages is a stack.
-use Rattle.std.proofs.Common.{◌≡◌, ℕ, zero, suc, ◌+◌, ◌-◌, ◌<◌, ◌≤◌, Bool, true, false, cond, eqb, ltb, leb, List, [], ◌∷◌, length, get_or, set, sym, refl, ap, ◌∙◌, subst, ⊎_elim, add-one, arith, length-set, get_or-set_other, get_or-set_same, ltb-false, le-ltb, ne_eqb, eqb-true}
+use Rattle.std.proofs.Common.{◌≡◌, ℕ, zero, suc, ◌+◌, ◌-◌, ◌<◌, ◌≤◌, Bool, true, false, cond, eqb, ltb, leb, List, [], ◌∷◌, length, get_or, set, sym, refl, ap, ◌∙◌, ⊎_elim, add-one, arith, length-set, get_or-set_other, get_or-set_same, ltb-false, le-ltb, ne_eqb, eqb-true}
 use borrow.Author.Tests.{lt-leb, eqb-false}
 use Rattle.std.proofs.lemmas.Bool.{cases_Bool}
-use Rattle.fault.specs.declared.fault.ListFault.TheVariants.{Bad, Empty}
+use Rattle.fault.specs.declared.fault.ListFault.TheVariants.{Empty}
 use Rattle.disk.specs.Medium.{Sectors, Write, after}
-use Rattle.freelist.specs.Stack.{Page, Free, Chain, is_data, Taking, took, refused, Listed, Lists, Takes, taken, given, given_page, opened, pushed, take_first, take_entry, load-member, Out}
+use Rattle.freelist.specs.Stack.{Free, Chain, is_data, took, refused, Listed, Lists, Takes, given, take_first, take_entry, Out}
 use Rattle.freelist.specs.Laws.{AllOut, AllData, ListedBlocksAreData, TakeIsUncons, EmptyGivesNone, GiveIsCons, OtherWritesLeaveTheList, OneRowIsListed}
 
 module _ (Y : Chain) (lo hi : ℕ) where

@@ -1,23 +1,23 @@
 -- The free list in the bytes of a volume is a stack.
-use Rattle.std.proofs.Common.{◌≡◌, ℕ, zero, suc, ◌+◌, ◌-◌, ◌*◌, ◌^◌, ◌<◌, ◌≤◌, min, Bool, true, false, cond, eqb, ltb, leb, ◌≢◌, ◌⊎◌, List, [], ◌∷◌, ◌++◌, length, get_or, take, drop, set, sym, refl, ap, ◌∙◌, subst, inl, inr, ⊎_elim, arith, length-set, get_or-set_other, get_or-set_same}
+use Rattle.std.proofs.Common.{◌≡◌, ℕ, zero, suc, ◌+◌, ◌-◌, ◌*◌, ◌<◌, ◌≤◌, cond, eqb, ◌≢◌, List, [], ◌∷◌, ◌++◌, length, get_or, set, sym, refl, ap, ◌∙◌, inl, inr, ⊎_elim, arith, length-set, get_or-set_other, get_or-set_same}
 use Rattle.std.specs.List.{AllByRecursion as All}
 use Rattle.std.proofs.ByRecursion.{All-append, All-weaker}
 use Rattle.std.proofs.lemmas.List.{append-nil}
-use Rattle.std.proofs.lemmas.Bool.{cases_eq, cases_Bool, cond_both, eq-eqb, ne_eqb, eqb-true}
+use Rattle.std.proofs.lemmas.Bool.{cases_eq, cond_both, eq-eqb, ne_eqb, eqb-true}
 use Rattle.fault.specs.declared.fault.ListFault.{ListFault}
-use Rattle.fault.specs.declared.fault.ListFault.TheVariants.{Bad, Empty}
-use Rattle.disk.specs.Medium.{Sectors, Sized, Write, Medium, after, ran}
+use Rattle.fault.specs.declared.fault.ListFault.TheVariants.{Empty}
+use Rattle.disk.specs.Medium.{Sectors, Write, after}
 use Rattle.disk.proofs.Writes.{length_after, after_append, Spares, SizedWrites}
 use Rattle.numbers.specs.Numbers.{num, put_num, nums}
 use Rattle.numbers.specs.Laws.{Apart}
 use Rattle.numbers.proofs.Numbers.{put_length, num_put, num_apart, num_set, num_ext, byte_apart, length_nums, getD_nums, nums_ext, apart}
 use Rattle.format.specs.Layout.{block_bytes, list_room}
 use Rattle.format.specs.Superblock.{at_nfree, at_free, at_tfree, at_flock, nfree_of, free_at, free_of, tfree_of, flock_of}
-use Rattle.freelist.specs.Stack.{Page, Free, Taking, is_data, Lists, Takes, taken, given, Out, most_total}
+use Rattle.freelist.specs.Stack.{Free, Out, most_total}
 use Rattle.freelist.specs.Stack.{took as taking, refused as no-taking}
 use Rattle.freelist.specs.Chain.{chain}
-use Rattle.freelist.specs.Bytes.{Taken, took, refused, in_pages, member_bytes, entries_bytes, free_list_of, take_bytes, give_bytes, give_writes, give_index, gave_all, unclaimed, emptied}
-use Rattle.freelist.specs.Laws.{AllOut, Distinct, Among, AllData, Elsewhere, SameElsewhere, ListsBlocks, TakesFirst, TakeGivesTheFirst, TakeFromAnEmptyList, GivesFirst, GiveListsInFront, WritesBelowLeaveTheList, Empties, EmptiedListsNothing, MemberWrite, GivesAll, GivingListsAll, Relists, RelistingListsExactly, Unclaimed, UnclaimedAreEachOnce}
+use Rattle.freelist.specs.Bytes.{Taken, took, refused, in_pages, member_bytes, entries_bytes, free_list_of, take_bytes, give_bytes, give_writes, gave_all, unclaimed, emptied}
+use Rattle.freelist.specs.Laws.{Distinct, Among, AllData, Elsewhere, SameElsewhere, ListsBlocks, TakeGivesTheFirst, TakeFromAnEmptyList, GiveListsInFront, WritesBelowLeaveTheList, EmptiedListsNothing, MemberWrite, GivingListsAll, RelistingListsExactly, UnclaimedAreEachOnce}
 use Rattle.freelist.proofs.Pages.{take_is_uncons, empty_gives_none, give_is_cons, other_writes_leave_the_list, listed_blocks_are_data}
 use Rattle.freelist.proofs.Gives.{index_low, length_give, give_count, give_total, give_apart, give_is_given, length_member, member_is_page, writes_full, writes_none}
 use Rattle.freelist.proofs.Takings.{take_is_taken, took_keeps, data_below, below_data}

@@ -1,21 +1,18 @@
 -- A take in the bytes of the superblock is a take over pages.
-use Rattle.std.proofs.Common.{◌≡◌, ℕ, zero, suc, ◌+◌, ◌-◌, ◌*◌, ◌^◌, ◌<◌, ◌≤◌, min, Bool, true, false, cond, eqb, ltb, leb, ◌≢◌, ◌⊎◌, List, [], ◌∷◌, ◌++◌, length, get_or, take, drop, set, replicate, sym, refl, ap, ◌∙◌, subst, inl, inr, ⊎_elim, arith, length-append, length-drop, length-set, length-take}
-use lib.ListN.{length-replicate}
+use Rattle.std.proofs.Common.{◌≡◌, ℕ, zero, suc, ◌+◌, ◌-◌, ◌<◌, ◌≤◌, min, Bool, true, false, cond, eqb, ltb, leb, List, [], ◌++◌, length, get_or, take, drop, sym, refl, ap, ◌∙◌, subst, inl, inr, ⊎_elim, arith, length-append, length-drop, length-take}
 use Rattle.std.proofs.lemmas.Bool.{ltb-false, ltb-true, leb-true, le-leb, lt-ltb, false≢true, cond_both}
-use Rattle.std.proofs.lemmas.List.{get_or_append_left, get_or-append_right, get_or-append-add, get_or-take, get_or-drop}
-use Rattle.fault.specs.declared.fault.ListFault.{ListFault}
-use Rattle.fault.specs.declared.fault.ListFault.TheVariants.{Bad, Empty}
+use Rattle.std.proofs.lemmas.List.{get_or_append_left, get_or-append_right, get_or-take, get_or-drop}
 use Rattle.disk.specs.Medium.{Sectors, Sized}
 use Rattle.numbers.specs.Numbers.{num, put_num, nums}
 use Rattle.numbers.specs.Laws.{Apart}
 use Rattle.numbers.proofs.Numbers.{put_length, num_put, num_apart, byte_apart, num_ext, nums_apart, nums_ext, getD_nums, apart}
 use Rattle.format.specs.Layout.{block_bytes, list_room}
-use Rattle.format.specs.Superblock.{at_nfree, at_free, at_tfree, nfree_of, free_at, free_of, tfree_of}
-use Rattle.freelist.specs.Stack.{Page, Free, Taking, is_data, take_entry, take_first, load-member, taken}
-use Rattle.freelist.specs.Stack.{took as taking, refused as no-taking}
-use Rattle.freelist.specs.Laws.{Elsewhere, SameElsewhere}
+use Rattle.format.specs.Superblock.{at_nfree, at_free, at_tfree, nfree_of, free_of, tfree_of}
+use Rattle.freelist.specs.Stack.{Free, Taking, is_data, take_entry, take_first, taken}
+use Rattle.freelist.specs.Stack.{took as taking}
+use Rattle.freelist.specs.Laws.{SameElsewhere}
 use Rattle.freelist.specs.Chain.{chain}
-use Rattle.freelist.specs.Bytes.{Taken, took, refused, in_pages, member_page, member_count, member_entries, at_entries, entries_bytes, put_bytes, free_list_of, lowered, loaded, load_bytes, take_first_bytes, take_entry_bytes, take_bytes}
+use Rattle.freelist.specs.Bytes.{Taken, took, refused, in_pages, member_page, member_count, member_entries, at_entries, entries_bytes, put_bytes, free_list_of, lowered, loaded, take_first_bytes, take_entry_bytes, take_bytes}
 
 -- BYTES IN PLACE OF OTHERS
 pub length_put_bytes : (o : ℕ) (b x : List ℕ) → o + length b ≤ length x → length (put_bytes o b x) ≡ length x

@@ -1,5 +1,5 @@
 -- The ways out of a take.
-use Rattle.std.proofs.Common.{◌≡◌, ℕ, zero, suc, ◌+◌, ◌-◌, ◌*◌, ◌<◌, ◌≤◌, Bool, true, false, cond, eqb, ltb, leb, ◌≢◌, List, [], ◌∷◌, length, get_or, Result, sym, refl, ap, ◌∙◌, arith}
+use Rattle.std.proofs.Common.{◌≡◌, ℕ, zero, suc, ◌+◌, ◌-◌, ◌<◌, ◌≤◌, true, false, ◌≢◌, List, [], get_or, Result, sym, refl, ap, ◌∙◌, arith}
 use Rattle.std.proofs.lemmas.Bool.{lt-ltb, le-ltb, eq-eqb, ne_eqb}
 use Rattle.fault.specs.declared.fault.ListFault.{ListFault}
 use Rattle.fault.specs.declared.fault.ListFault.TheVariants.{Bad, Empty}
@@ -10,7 +10,7 @@ use Rattle.format.specs.Layout.{list_room}
 use Rattle.format.specs.Superblock.{at_nfree, nfree_of, free_of}
 use Rattle.freelist.specs.Stack.{is_data}
 use Rattle.freelist.specs.Answers.{take_answer, take_left}
-use Rattle.freelist.specs.Bytes.{Taken, took, refused, member_count, loaded, lowered, load_bytes, take_first_bytes, take_entry_bytes, take_bytes}
+use Rattle.freelist.specs.Bytes.{Taken, took, refused, member_count, loaded, lowered, load_bytes, take_entry_bytes, take_bytes}
 
 module _ (lo hi : ℕ) (S : Sectors) (m : ℕ) (s : List ℕ) where
   pub take_too_many : list_room < nfree_of s → take_bytes lo hi S m s ≡ refused (Bad m)

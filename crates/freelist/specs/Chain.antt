@@ -1,5 +1,4 @@
 -- The chain members of a volume's free list, as they lie in bytes.
-use Rattle.std.specs.Prelude.{ℕ, List}
 use Rattle.std.proofs.Common.{lit<}
 use Rattle.numbers.proofs.Numbers.{length_nums}
 use Rattle.format.specs.Layout.{list_room}

@@ -1,15 +1,15 @@
 -- The free list is a stack: take is uncons, give is cons.
-use Rattle.std.specs.Prelude.{◌≡◌, ℕ, zero, suc, ◌+◌, ◌-◌, ◌<◌, ◌≤◌, Bool, true, false, cond, ◌⊎◌, List, [], ◌∷◌, ◌++◌, length, ◌==◌, ◌≢◌, slice_index, slice_set}
+use Rattle.std.specs.Prelude.{◌≡◌, ℕ, ◌+◌, ◌-◌, ◌<◌, ◌≤◌, true, cond, ◌⊎◌, List, [], ◌∷◌, ◌++◌, length, ◌==◌, ◌≢◌, slice_index, slice_set}
 use Rattle.std.specs.List.{AllByRecursion as All}
 use Rattle.fault.specs.declared.fault.ListFault.TheVariants.{Empty}
 use Rattle.disk.specs.Medium.{Sectors, Sized, Write, after}
 use Rattle.numbers.specs.Laws.{Apart}
-use Rattle.format.specs.Layout.{block_bytes, list_room}
+use Rattle.format.specs.Layout.{block_bytes}
 use Rattle.format.specs.Superblock.{at_nfree, at_tfree, at_flock, tfree_of, flock_of}
-use Rattle.freelist.specs.Stack.{Page, Free, Chain, is_data, Taking, Listed, Lists, Takes, taken, given, Out, most_total}
+use Rattle.freelist.specs.Stack.{Free, Chain, is_data, Lists, Takes, taken, given, Out, most_total}
 use Rattle.freelist.specs.Stack.{refused as refused-taking}
 use Rattle.freelist.specs.Chain.{chain}
-use Rattle.freelist.specs.Bytes.{entries_bytes, Taken, took, refused, free_list_of, take_bytes, give_bytes, give_writes, gave_all, unclaimed, emptied}
+use Rattle.freelist.specs.Bytes.{entries_bytes, took, refused, free_list_of, take_bytes, give_bytes, give_writes, gave_all, unclaimed, emptied}
 
 abbrev pub AllOut : List Write → List ℕ → Type 0
 AllOut [] L = Unit {0}

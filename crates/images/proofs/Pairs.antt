@@ -1,11 +1,10 @@
 -- Pairs of bytes exchanged, in one buffer and in every sector.
-use Rattle.std.proofs.Common.{◌≡◌, ℕ, zero, suc, ◌+◌, ◌*◌, ◌/◌, ◌<◌, ◌≤◌, Bool, true, false, cond, List, [], ◌∷◌, map, length, get_or, take, drop, set, sym, refl, ap, ◌∙◌, add-one, arith}
+use Rattle.std.proofs.Common.{◌≡◌, ℕ, zero, suc, ◌+◌, ◌*◌, ◌/◌, ◌<◌, Bool, true, false, cond, List, [], ◌∷◌, map, length, get_or, take, drop, set, sym, refl, ap, ◌∙◌, add-one, arith}
 use Rattle.std.proofs.lemmas.List.{length-map, get_or-map, map-set}
 use Rattle.disk.specs.Medium.{Medium, Sectors, Sized, Power, endless, left, sector_bytes, ran}
 use Rattle.disk.specs.Disks.{serves}
-use Rattle.images.specs.Images.{sectors_of, image, swapped, dump, DumpLaw}
+use Rattle.images.specs.Images.{sectors_of, swapped, DumpLaw}
 use Rattle.disk.proofs.Writes.{ran_one, written, spend}
-use Rattle.images.proofs.Images.{length_sectors}
 
 pub length_swapped : (x : List ℕ) → length (swapped x) ≡ length x
 unfolding swapped

@@ -1,8 +1,8 @@
 -- The laws of numbers in a row of bytes, over any width. The range that changes comes first in Apart.
-use Rattle.std.proofs.Common.{◌≡◌, ℕ, zero, suc, ◌+◌, ◌-◌, ◌*◌, ◌/◌, ◌%◌, ◌<◌, ◌≤◌, Bool, true, ◌||◌, leb, ◌≢◌, ◌⊎◌, List, [], ◌∷◌, ◌++◌, length, get_or, take, drop, set, replicate, sym, refl, ap, ◌∙◌, inl, inr, ⊎_elim, mul-le-mul_left, mul-suc, arith, length-set, get_or-drop, get_or-set_other, get_or-take, get_or-set_same, set-set}
+use Rattle.std.proofs.Common.{◌≡◌, ℕ, zero, suc, ◌+◌, ◌*◌, ◌/◌, ◌%◌, ◌<◌, ◌≤◌, true, ◌||◌, leb, ◌≢◌, List, [], ◌∷◌, ◌++◌, length, get_or, take, drop, set, replicate, sym, refl, ap, ◌∙◌, inl, inr, ⊎_elim, mul-le-mul_left, mul-suc, arith, length-set, get_or-drop, get_or-set_other, get_or-take, get_or-set_same, set-set}
 use lib.Seq.{set_comm, set-get_or}
 use Rattle.std.proofs.lemmas.Bool.{leb-true, or_cases, cases_lt, cases_eq}
-use Rattle.std.proofs.lemmas.List.{ext_get_or, length-replicate, get_or_append_left, get_or-append-add}
+use Rattle.std.proofs.lemmas.List.{ext_get_or, get_or_append_left, get_or-append-add}
 use Rattle.numbers.specs.Numbers.{num, put_num, nums}
 use Rattle.numbers.specs.Laws.{Apart}
 

@@ -1,7 +1,7 @@
 -- One write through a fuse.
-use Rattle.std.proofs.Common.{◌≡◌, ℕ, zero, suc, ◌-◌, ◌<◌, ◌≤◌, min, List, [], ◌∷◌, length, take, sym, refl, ap, ◌∙◌, ⊎_elim, arith, take_all}
+use Rattle.std.proofs.Common.{◌≡◌, ℕ, ◌-◌, ◌<◌, ◌≤◌, min, List, [], ◌∷◌, sym, refl, ap, ◌∙◌, ⊎_elim, arith, take_all}
 use Rattle.std.proofs.lemmas.Bool.{cases_lt}
-use Rattle.disk.specs.Medium.{Power, endless, left, Sectors, Write, Medium, after, kept, spent, ran, least}
+use Rattle.disk.specs.Medium.{Power, endless, left, Write, Medium, after, kept, spent, ran, least}
 use Rattle.piles.specs.Fuses.{fused}
 
 one_kept : (f : ℕ) (p : Power) (w : Write) → 0 < f → kept p (w ∷ []) ≡ kept (least f p) (w ∷ [])

@@ -1,5 +1,5 @@
 -- Two scans that are alike, so that findings and claims keep them alike, are alike after the check and after each part of it.
-use Rattle.std.proofs.Common.{◌≡◌, ℕ, zero, suc, ◌+◌, ◌-◌, ◌*◌, ◌/◌, Bool, true, false, cond, ◌&&◌, eqb, ltb, leb, List, [], get_or, refl, ap, subst}
+use Rattle.std.proofs.Common.{◌≡◌, ℕ, zero, suc, ◌+◌, ◌-◌, ◌/◌, Bool, true, false, cond, ◌&&◌, eqb, ltb, leb, List, [], get_or, refl, ap, subst}
 use Rattle.disk.specs.Medium.{Sectors}
 use Rattle.fault.specs.declared.place.Place.{Place}
 use Rattle.fault.specs.declared.place.Place.TheVariants.{Slot, Member}

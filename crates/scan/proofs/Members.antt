@@ -1,5 +1,5 @@
 -- The free list and the census: what is left, one turn further.
-use Rattle.std.proofs.Common.{◌≡◌, ℕ, zero, suc, ◌+◌, ◌-◌, ◌*◌, ◌/◌, ◌<◌, ◌≤◌, Bool, true, false, cond, eqb, ltb, List, [], ◌∷◌, length, get_or, sym, refl, ap, ◌∙◌, arith}
+use Rattle.std.proofs.Common.{◌≡◌, ℕ, zero, suc, ◌+◌, ◌-◌, ◌<◌, ◌≤◌, true, false, List, [], get_or, refl, ap, arith}
 use native.Mathlib.Nat.{sub-zero}
 use Rattle.std.proofs.lemmas.Bool.{eq-eqb, ne_eqb, lt-ltb, le-ltb}
 use Rattle.disk.specs.Medium.{Sectors}
@@ -7,7 +7,7 @@ use Rattle.fault.specs.declared.place.Place.TheVariants.{Member}
 use Rattle.fault.specs.declared.finding.Kind.TheVariants.{CountTooLarge, BadEntry, SecondEntry}
 use Rattle.format.specs.Layout.{list_room, superblock}
 use Rattle.verdict.specs.declared.verdict.Census.{Census}
-use Rattle.verdict.specs.Scan.{Scan, opens, met, note, rest, listed, below, chain, count_of, entry_of, free_list, counted, survey}
+use Rattle.verdict.specs.Scan.{Scan, opens, met, note, listed, below, chain, count_of, entry_of, free_list, counted, survey}
 use Rattle.scan.specs.Left.{onward, entries_left, entry_met}
 use Rattle.scan.proofs.Turns.{rest_more, rest_done}
 

@@ -1,5 +1,5 @@
 -- A scan that keeps what the caller's list shows of the findings, beside one that keeps them all.
-use Rattle.std.proofs.Common.{◌≡◌, ℕ, zero, suc, ◌+◌, ◌<◌, ◌≤◌, Bool, true, false, cond, ltb, List, [], ◌∷◌, ◌++◌, length, get_or, set, replicate, sym, refl, ap, ◌∙◌, arith, length-append, lt-ltb}
+use Rattle.std.proofs.Common.{◌≡◌, ℕ, suc, ◌+◌, Bool, true, false, cond, ltb, List, [], ◌∷◌, ◌++◌, length, set, replicate, sym, refl, ap, ◌∙◌, arith, length-append, lt-ltb}
 use Prim.Native.Nat.compare
 use lib.Bits.{bit_or}
 use Rattle.disk.specs.Medium.{Sectors}

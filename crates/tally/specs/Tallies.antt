@@ -1,7 +1,7 @@
 -- The check's scan as the code holds it, and how many claims it can still make.
 use Rattle.std.specs.Prelude.{ℕ, zero, suc, List, [], ◌∷◌}
 use Rattle.fault.specs.declared.finding.Finding.{Finding}
-use Rattle.verdict.specs.Scan.{Scan, Log, shown}
+use Rattle.verdict.specs.Scan.{Scan, shown}
 use Rattle.tally.specs.declared.tally.Tally.{Tally}
 
 -- the codes, and what the caller's list shows of the findings

@@ -1,7 +1,7 @@
 -- What lies outside of a file's trees does not matter to the file.
 use Rattle.std.proofs.Common.{◌≡◌, ℕ, zero, suc, ◌+◌, ◌<◌, ◌≤◌, List, [], ◌∷◌, length, sym, refl, ap, ◌∙◌, arith}
 use Rattle.std.specs.List.{AllByRecursion as All}
-use Rattle.trees.specs.Trees.{total, hit, named, reach, Absent}
+use Rattle.trees.specs.Trees.{hit, named, reach, Absent}
 use Rattle.trees.specs.Volume.{in_file, claims}
 use Rattle.trees.proofs.Sums.{total_same, total_at, hit_same}
 use Rattle.trees.proofs.Files.{slot_at, file_at}

@@ -1,6 +1,6 @@
 -- What a tree names.
 use Rattle.std.proofs.Common.{◌≡◌, ℕ, zero, suc, arith}
-use Rattle.trees.specs.Trees.{total, hit, named, Absent}
+use Rattle.trees.specs.Trees.{total, named, Absent}
 use Rattle.trees.proofs.Sums.{total_zero, hit_none}
 
 -- the absent tree names nothing

@@ -11,7 +11,7 @@ use Rattle.format.specs.declared.inode.InodeType.{InodeType}
 use Rattle.format.specs.declared.inode.InodeType.TheVariants.{Unused, Regular, Directory, Special, Unknown}
 use Rattle.trees.specs.Walk.{Scan as Count, meet, steps, walk as tree-walk}
 use Rattle.trees.specs.Volume.{file_phase}
-use Rattle.verdict.specs.Scan.{Scan, rows, walk, slots_from, by_type, inode, files}
+use Rattle.verdict.specs.Scan.{Scan, rows, slots_from, by_type, inode, files}
 use Rattle.verdict.specs.Sound.{inode_block, head, entry}
 use Rattle.verdict.proofs.Rows.{rows_last, rows_keep, rest_keep, rest_all}
 use Rattle.verdict.proofs.Seen.{found_in, seen, more, note_seen, Keeps, keeps_found, rest_seen, walk_keep, walk_seen}

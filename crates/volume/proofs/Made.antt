@@ -1,14 +1,14 @@
 -- What make answers, by its tests.
-use Rattle.std.proofs.Common.{◌≡◌, ℕ, ◌-◌, Bool, true, false, cond, eqb, leb, List, [], length, sym, refl, ap, ◌∙◌}
+use Rattle.std.proofs.Common.{◌≡◌, ℕ, ◌-◌, true, false, eqb, leb, List, sym}
 use Rattle.fault.specs.declared.refusal.Refusal.TheVariants.{BufferSize, MakeSizes}
 use Rattle.fault.specs.declared.fault.Fault.{Fault}
 use Rattle.fault.specs.Refusals.{beyond, keeper}
-use Rattle.disk.specs.Medium.{Medium, Sectors, ran}
+use Rattle.disk.specs.Medium.{Medium, ran}
 use Rattle.disk.proofs.Writes.{ran_none}
 use Rattle.format.specs.Layout.{block_bytes}
 use Rattle.format.specs.Sizes.{lawful_sizes}
 use Rattle.rules.specs.Calls.{Answer, done, refused}
-use Rattle.rules.specs.Make.{make_answer, make_by, make_rule, make_buffer, make_writes, new_list}
+use Rattle.rules.specs.Make.{make_answer, make_by, make_buffer, make_writes, new_list}
 
 pub unlawful : (i f b n : ℕ) → lawful_sizes i f ≡ false → make_answer i f b n ≡ refused (keeper MakeSizes)
 unlawful i f b n p = rw p

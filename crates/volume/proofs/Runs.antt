@@ -1,12 +1,11 @@
 -- A call that did what its rule says carries every run on.
-use Rattle.std.proofs.Common.{◌≡◌, ℕ, List, [], length, sym, refl, ap, ◌∙◌}
+use Rattle.std.proofs.Common.{◌≡◌, ℕ, List, [], length, sym, refl, ap}
 use Rattle.disk.specs.Medium.{Medium, Write, Sized, ran}
-use Rattle.disk.specs.Calls.{Did}
 use Rattle.disk.proofs.Binds.{did_none, did_as}
 use Rattle.format.specs.Sizes.{Sizes}
 use Rattle.rules.specs.Calls.{Answer, done, lookup, may_check, may_clear, find_answer, check_answer, clear_answer}
 use Rattle.rules.specs.Make.{make_answer, make_rule}
-use Rattle.rules.specs.Runs.{Ask, find, check, clear, close, rule}
+use Rattle.rules.specs.Runs.{find, check, clear, close, rule}
 use Rattle.rules.specs.Promises.{CarriesOn, StartsARun}
 use Rattle.rules.proofs.Promised.{carried_on, started}
 

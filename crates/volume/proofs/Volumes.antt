@@ -1,12 +1,11 @@
 -- Whether a superblock stands for a volume.
-use Rattle.std.proofs.Common.{◌≡◌, ℕ, ◌<◌, ◌≤◌, Bool, true, false, cond, ◌&&◌, eqb, ltb, leb, List, [], length, get_or, Ok, Err, Result, sym, refl, ap, ◌∙◌}
-use Rattle.fault.specs.declared.fault.Fault.{Fault}
+use Rattle.std.proofs.Common.{◌≡◌, ℕ, Bool, true, false, cond, ◌&&◌, ltb, leb, List, [], length, get_or, Ok, Err, refl}
 use Rattle.fault.specs.declared.refusal.Refusal.TheVariants.{NoVolume}
 use Rattle.fault.specs.Refusals.{beyond, keeper}
 use Rattle.disk.specs.Medium.{Sectors}
 use Rattle.format.specs.Layout.{superblock}
 use Rattle.format.specs.Superblock.{isize_of, fsize_of, type_fits}
-use Rattle.format.specs.Sizes.{Sizes, lawful_sizes}
+use Rattle.format.specs.Sizes.{lawful_sizes}
 use Rattle.rules.specs.Calls.{is_volume, sizes_in, lookup}
 
 pub if_false : {A : Type 0} (b : Bool) (x y z : A) → b ≡ false → z ≡ y → z ≡ cond b x y

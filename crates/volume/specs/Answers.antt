@@ -1,5 +1,5 @@
 -- What the calls return, as answers of the rules.
-use Rattle.std.specs.Prelude.{ℕ, List, [], Ok, Err, Result}
+use Rattle.std.specs.Prelude.{Ok, Err, Result}
 use Rattle.fault.specs.declared.fault.Fault.{Fault}
 use Rattle.format.specs.declared.geometry.Geometry.{Geometry}
 use Rattle.format.specs.Sizes.{Sizes}

@@ -1,6 +1,6 @@
 use mathlib.Core.Path.{refl}
-use Rattle.numbers.specs.Numbers.{num, put_num, nums}
-use Rattle.freelist.specs.Bytes.{zeros, put_bytes, member_bytes, give_writes, give_bytes, take_bytes, gave_all, unclaimed, emptied}
+use Rattle.numbers.specs.Numbers.{num, put_num}
+use Rattle.freelist.specs.Bytes.{zeros, give_writes, give_bytes, take_bytes, gave_all, unclaimed, emptied}
 use Rattle.rules.specs.Make.{bare_superblock, new_list}
 use Rattle.examples.specs.Examples.{NewVolumeOf3And20}
 use Rattle.examples.proofs.new_volume_stands.Goals as goal

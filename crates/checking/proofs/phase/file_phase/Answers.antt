@@ -1,4 +1,4 @@
-use Rattle.std.proofs.Common.{◌≡◌, ℕ, List, length, replicate, ap, ◌∙◌, arith, rules}
+use Rattle.std.proofs.Common.{◌≡◌, ℕ, List, replicate, ap, ◌∙◌, rules}
 use Rattle.verdict.specs.Scan.{files}
 use Rattle.scan.proofs.Shown.{files_done_show}
 use Rattle.checking.specs.FilePhase.{fresh}

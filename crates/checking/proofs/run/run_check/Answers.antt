@@ -1,6 +1,5 @@
-use Rattle.std.proofs.Common.{◌≡◌, ℕ, ◌≤◌, List, ◌++◌, length, drop, replicate, sym, refl, ap, ◌∙◌, arith, rules}
+use Rattle.std.proofs.Common.{◌≡◌, ℕ, List, length, replicate, ap, ◌∙◌, rules}
 use Rattle.verdict.specs.Scan.{check}
-use Rattle.verdict.specs.Verdict.{codes_of}
 use Rattle.scan.proofs.Shown.{check_done_shows}
 use Rattle.checking.specs.FilePhase.{fresh}
 use Rattle.checking.proofs.run.run_check.Goals as goal

@@ -2,7 +2,7 @@ use Rattle.std.proofs.Common.{◌≡◌, sym, ap, ◌∙◌, arith}
 use Rattle.disk.specs.Medium.{ran}
 use Rattle.disk.proofs.Writes.{ran_none}
 use Rattle.format.specs.Superblock.{nfree_of}
-use Rattle.freelist.specs.Bytes.{give_index, grounded, give_writes}
+use Rattle.freelist.specs.Bytes.{give_index, grounded}
 use Rattle.freelist.proofs.Gives.{index_none, index_full, index_room, grounded_none, grounded_some, writes_full, writes_none}
 use Rattle.freelist.proofs.Coded.{bytes_is}
 use Rattle.freelist.proofs.list.give_in.Goals as goal

@@ -1,4 +1,4 @@
-use Rattle.std.proofs.Common.{◌≡◌, ℕ, ◌-◌, ◌<◌, ◌≤◌, List, sym, refl, ap, ◌∙◌, arith}
+use Rattle.std.proofs.Common.{◌≡◌, ℕ, ◌-◌, List, sym, ap, ◌∙◌, arith}
 use Rattle.disk.specs.Medium.{Write, ran}
 use Rattle.disk.proofs.Writes.{ran_none, ran_append, length_ran}
 use Rattle.freelist.specs.Bytes.{unclaimed}

@@ -1,4 +1,4 @@
-use Rattle.std.proofs.Common.{◌≡◌, ℕ, ◌+◌, ◌<◌, ◌≤◌, List, [], get_or, sym, ap, ◌∙◌, arith}
+use Rattle.std.proofs.Common.{◌<◌, ◌≤◌, [], get_or, sym, ap, ◌∙◌, arith}
 use Rattle.format.specs.Layout.{list_room}
 use Rattle.freelist.specs.Bytes.{member_count, lowered}
 use Rattle.freelist.specs.Answers.{take_answer, take_left}

@@ -1,4 +1,4 @@
-use Rattle.std.proofs.Common.{◌≡◌, ℕ, ◌-◌, sym, ap, ◌∙◌, arith}
+use Rattle.std.proofs.Common.{◌≡◌, ℕ, ◌-◌, ap, ◌∙◌, arith}
 use Rattle.numbers.specs.Numbers.{put_num}
 use Rattle.format.specs.Superblock.{at_nfree, nfree_of, free_of}
 use Rattle.freelist.specs.Bytes.{lowered}

@@ -1,6 +1,6 @@
-use Rattle.std.proofs.Common.{◌≡◌, ℕ, List, [], ◌∷◌, sym, ap, ◌∙◌}
+use Rattle.std.proofs.Common.{ℕ, List, [], ◌∷◌, sym, ap, ◌∙◌}
 use borrow.Rule.Slice.PartMut.{put_mid}
-use Rattle.disk.specs.Medium.{Write, ran}
+use Rattle.disk.specs.Medium.{ran}
 use Rattle.freelist.specs.Bytes.{zeros, at_entries, entries_bytes}
 use Rattle.freelist.proofs.Coded.{member_laid, laid_length}
 use Rattle.freelist.proofs.list.write_member.Goals as goal

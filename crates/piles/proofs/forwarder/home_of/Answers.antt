@@ -1,4 +1,4 @@
-use Rattle.std.proofs.Common.{◌≡◌, ◌+◌, sym, ◌∙◌, add-zero, arith}
+use Rattle.std.proofs.Common.{◌+◌, sym, ◌∙◌, add-zero, arith}
 use Rattle.piles.proofs.Homes.{home_here, home_skip, home_end}
 use Rattle.piles.proofs.forwarder.home_of.Goals as goal
 

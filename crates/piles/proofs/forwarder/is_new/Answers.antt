@@ -1,4 +1,4 @@
-use Rattle.std.proofs.Common.{◌≡◌, sym, ◌∙◌, arith}
+use Rattle.std.proofs.Common.{sym, ◌∙◌, arith}
 use Rattle.piles.proofs.Homes.{new_here, new_skip, new_end}
 use Rattle.piles.proofs.forwarder.is_new.Goals as goal
 

@@ -1,4 +1,4 @@
-use Rattle.std.proofs.Common.{◌≡◌, ℕ, ◌+◌, ◌-◌, ◌*◌, ◌<◌, List, [], length, get_or, drop, sym, ap, ◌∙◌, arith, drop_of_length-le, false-eqb}
+use Rattle.std.proofs.Common.{ℕ, ◌+◌, ◌-◌, ◌*◌, ◌<◌, List, length, get_or, drop, sym, ap, ◌∙◌, arith, drop_of_length-le, false-eqb}
 use Rattle.script.specs.Numbers.{more_digits}
 use Rattle.script.proofs.Decimals.{too_large, below_digits, above_digits, one_digit, no_digit, by_digits, from_index}
 use Rattle.script.proofs.token.number_of.Goals as goal

@@ -1,7 +1,6 @@
-use Rattle.std.proofs.Common.{◌≡◌, true, false, Ok, Err, sym, refl, ap, ◌∙◌, arith, rules, le-leb}
+use Rattle.std.proofs.Common.{Err, sym, ap, ◌∙◌, arith, le-leb}
 use borrow.Author.Tests.{lt-leb}
 use Rattle.std.proofs.lemmas.Result.{err_from_is_err_and, MatchResult-from_err}
-use Rattle.rules.specs.Calls.{lookup, same_sizes, may_check}
 use Rattle.volume.specs.Answers.{looked_up, sizes_of}
 use Rattle.volume.proofs.Served.{found_fits, refused_look, other_sizes, short_scratch, served, the_same}
 use Rattle.volume.proofs.check.may_check.Goals as goal

@@ -1,6 +1,6 @@
-use Rattle.std.proofs.Common.{◌≡◌, Ok, Err, sym, refl, ap, ◌∙◌, rules}
+use Rattle.std.proofs.Common.{◌≡◌, Err, ap, ◌∙◌}
 use Rattle.std.proofs.lemmas.Result.{err_from_is_err_and}
-use Rattle.rules.specs.Calls.{find_answer, lookup, refused, sized}
+use Rattle.rules.specs.Calls.{find_answer, lookup, sized}
 use Rattle.volume.specs.Answers.{find_says, sizes_of}
 use Rattle.volume.proofs.Runs.{find_carries}
 use Rattle.volume.proofs.find.find.Goals as goal

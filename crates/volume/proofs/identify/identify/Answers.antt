@@ -1,4 +1,4 @@
-use Rattle.std.proofs.Common.{◌≡◌, true, false, leb, Ok, Err, sym, refl, ap, ◌∙◌, rules, le-leb}
+use Rattle.std.proofs.Common.{◌≡◌, true, false, leb, Err, sym, ap, le-leb}
 use borrow.Author.Tests.{lt-leb}
 use Rattle.format.specs.Superblock.{isize_of, fsize_of, type_fits}
 use Rattle.format.specs.Sizes.{lawful_sizes}

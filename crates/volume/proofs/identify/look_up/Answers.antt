@@ -1,6 +1,5 @@
-use Rattle.std.proofs.Common.{◌≡◌, true, false, ltb, length, Ok, Err, sym, refl, ap, ◌∙◌, arith, rules, le-ltb, lt-ltb}
+use Rattle.std.proofs.Common.{length, Err, ap, ◌∙◌, arith, le-ltb, lt-ltb}
 use Rattle.format.specs.Layout.{superblock}
-use Rattle.rules.specs.Calls.{lookup}
 use Rattle.volume.proofs.Volumes.{look_beyond, look_at}
 use Rattle.volume.proofs.identify.look_up.Goals as goal
 

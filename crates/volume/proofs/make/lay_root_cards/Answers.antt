@@ -1,4 +1,3 @@
-use Rattle.std.proofs.Common.{rules}
 use Rattle.rules.specs.Make.{root_block}
 use Rattle.volume.proofs.make.lay_root_cards.Goals as goal
 

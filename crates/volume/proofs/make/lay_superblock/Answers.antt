@@ -1,4 +1,3 @@
-use Rattle.std.proofs.Common.{rules}
 use Rattle.rules.specs.Make.{bare_superblock}
 use Rattle.volume.proofs.make.lay_superblock.Goals as goal
 

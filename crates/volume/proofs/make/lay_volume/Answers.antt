@@ -1,4 +1,4 @@
-use Rattle.std.proofs.Common.{◌≡◌, ℕ, ◌+◌, ◌-◌, List, [], ◌∷◌, ◌++◌, length, sym, refl, ap, ◌∙◌, arith}
+use Rattle.std.proofs.Common.{◌≡◌, ℕ, ◌-◌, List, [], ◌∷◌, ◌++◌, length, ap, ◌∙◌, arith}
 use Rattle.disk.specs.Medium.{Medium, Write, ran}
 use Rattle.disk.proofs.Writes.{length_ran, ran_append}
 use Rattle.format.specs.Layout.{first_list_block, superblock}

@@ -1,4 +1,4 @@
-use Rattle.std.proofs.Common.{◌≡◌, ℕ, zero, suc, List, replicate, sym, refl, arith}
+use Rattle.std.proofs.Common.{◌≡◌, ℕ, zero, suc, List, replicate, refl}
 use Rattle.freelist.specs.Bytes.{zeros}
 use Rattle.format.specs.Layout.{block_bytes}
 use Rattle.rules.specs.Make.{list_block}

@@ -1,12 +1,11 @@
-use Rattle.std.proofs.Common.{◌≡◌, ℕ, ◌-◌, true, false, eqb, leb, length, sym, refl, ap, ◌∙◌, arith, rules, eq-eqb, ne_eqb, le-leb}
+use Rattle.std.proofs.Common.{◌≡◌, ℕ, ◌-◌, true, false, eqb, leb, length, sym, ap, ◌∙◌, arith, eq-eqb, ne_eqb, le-leb}
 use Rattle.fault.specs.declared.fault.Fault.{Fault}
 use borrow.Author.Tests.{lt-leb}
 use Rattle.format.specs.Layout.{block_bytes}
-use Rattle.format.specs.Sizes.{lawful_sizes}
 use Rattle.fault.specs.declared.refusal.Refusal.TheVariants.{BufferSize, MakeSizes}
 use Rattle.fault.specs.Refusals.{beyond, keeper}
 use Rattle.disk.specs.Medium.{ran}
-use Rattle.rules.specs.Calls.{Answer, done, refused}
+use Rattle.rules.specs.Calls.{done, refused}
 use Rattle.rules.specs.Make.{make_answer, make_writes, new_list}
 use Rattle.volume.proofs.Made.{unlawful, too_large, bad_buffer, accepted_make, refused_writes, refused_buffer, done_writes, done_buffer}
 use Rattle.volume.proofs.Runs.{make_starts}

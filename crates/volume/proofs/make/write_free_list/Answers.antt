@@ -1,7 +1,7 @@
-use Rattle.std.proofs.Common.{◌≡◌, ℕ, ◌+◌, ◌-◌, ◌<◌, ◌≤◌, List, [], ◌∷◌, ◌++◌, length, replicate, sym, refl, ap, ◌∙◌, subst, arith, rules}
+use Rattle.std.proofs.Common.{◌≡◌, ℕ, ◌+◌, ◌-◌, List, [], ◌∷◌, length, replicate, refl, ap, ◌∙◌, arith, rules}
 use Rattle.disk.specs.Medium.{Medium, ran}
 use Rattle.disk.proofs.Writes.{length_ran, ran_append}
-use Rattle.format.specs.Layout.{block_bytes, superblock, list_room}
+use Rattle.format.specs.Layout.{block_bytes, superblock}
 use Rattle.format.specs.Superblock.{nfree_of}
 use Rattle.freelist.specs.Bytes.{zeros, emptied, gave_all, unclaimed}
 use Rattle.freelist.proofs.Stands.{emptied_count}

@@ -1,4 +1,4 @@
-use Rattle.std.proofs.Common.{◌≡◌, ◌+◌, ◌<◌, [], ◌∷◌, length, sym, refl, ap, ◌∙◌, add-one, arith}
+use Rattle.std.proofs.Common.{◌≡◌, ◌+◌, [], ◌∷◌, length, sym, ap, ◌∙◌, add-one, arith}
 use Rattle.disk.specs.Medium.{Medium, ran}
 use Rattle.disk.proofs.Writes.{length_ran, ran_append, ran_none}
 use Rattle.format.specs.Layout.{first_list_block}

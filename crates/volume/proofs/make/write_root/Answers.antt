@@ -1,4 +1,4 @@
-use Rattle.std.proofs.Common.{◌≡◌, ℕ, List, replicate, sym, refl, arith}
+use Rattle.std.proofs.Common.{◌≡◌, ℕ, List, replicate, refl}
 use Rattle.freelist.specs.Bytes.{zeros}
 use Rattle.format.specs.Layout.{block_bytes}
 use Rattle.volume.proofs.make.write_root.Goals as goal

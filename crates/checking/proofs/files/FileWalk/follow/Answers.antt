@@ -1,4 +1,4 @@
-use Rattle.std.proofs.Common.{◌≡◌, ◌+◌, ◌-◌, ◌*◌, ◌<◌, ◌≤◌, [], get_or, sym, refl, ap, ◌∙◌, arith}
+use Rattle.std.proofs.Common.{◌≡◌, ◌≤◌, [], get_or, sym, ap, arith}
 use Rattle.fault.specs.declared.finding.Kind.TheVariants.{BadAddress, SecondClaim}
 use Rattle.format.specs.Layout.{table_width}
 use Rattle.verdict.specs.Scan.{met}

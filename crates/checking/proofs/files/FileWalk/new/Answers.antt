@@ -1,4 +1,4 @@
-use Rattle.std.proofs.Common.{◌≡◌, ap, ◌∙◌, arith}
+use Rattle.std.proofs.Common.{ap, ◌∙◌, arith}
 use Rattle.fault.specs.declared.place.Place.TheVariants.{Nowhere}
 use Rattle.verdict.specs.Scan.{Scan, files}
 use Rattle.scan.proofs.Turns.{slots_done}

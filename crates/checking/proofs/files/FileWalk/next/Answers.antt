@@ -1,7 +1,5 @@
-use Rattle.std.proofs.Common.{◌≡◌, ◌+◌, ◌-◌, ◌*◌, ◌/◌, ◌<◌, ◌≤◌, sym, refl, ap, ◌∙◌, arith}
+use Rattle.std.proofs.Common.{◌≡◌, ◌+◌, ◌-◌, ◌<◌, ap, arith}
 use Rattle.fault.specs.declared.place.Place.TheVariants.{Slot}
-use Rattle.format.specs.Layout.{depth_of}
-use Rattle.format.specs.Inode.{address_of}
 use Rattle.format.specs.Sizes.{inodes_of}
 use Rattle.verdict.specs.Scan.{walk}
 use Rattle.scan.proofs.Turns.{slots_more, slots_done, files_more, files_done}

@@ -1,4 +1,4 @@
-use Rattle.std.proofs.Common.{◌≡◌, ◌+◌, ◌-◌, ◌*◌, ◌<◌, ◌≤◌, ◌⊎◌, sym, refl, ap, ◌∙◌, ⊎_elim, arith}
+use Rattle.std.proofs.Common.{◌≡◌, ◌⊎◌, sym, ⊎_elim, arith}
 use Rattle.scan.specs.Left.{entry_met}
 use Rattle.scan.proofs.Members.{left_none, entry_end, entry_more, entry_not, entry_on}
 use Rattle.tally.specs.Tallies.{scan_of}

@@ -1,4 +1,4 @@
-use Rattle.std.proofs.Common.{◌≡◌, ◌+◌, ◌-◌, ◌<◌, ◌≤◌, sym, refl, ap, ◌∙◌, arith}
+use Rattle.std.proofs.Common.{◌+◌, ◌<◌, ◌≤◌, refl, arith}
 use Rattle.format.specs.Layout.{list_room}
 use Rattle.verdict.specs.Scan.{count_of}
 use Rattle.scan.proofs.Members.{left_none, member_full, member_is}

@@ -1,4 +1,4 @@
-use Rattle.std.proofs.Common.{◌≡◌, ◌+◌, ◌-◌, ◌<◌, ◌≤◌, sym, refl, ap, ◌∙◌, arith}
+use Rattle.std.proofs.Common.{refl, arith}
 use Rattle.scan.proofs.Members.{left_none, left_step}
 use Rattle.checking.proofs.list.ListWalk.next.Goals as goal
 

@@ -1,4 +1,4 @@
-use Rattle.std.proofs.Common.{◌≡◌, ◌+◌, ◌-◌, ◌*◌, ◌<◌, ◌≤◌, sym, refl, ap, ◌∙◌, arith}
+use Rattle.std.proofs.Common.{◌+◌, sym, refl, ap, ◌∙◌, arith}
 use Rattle.verdict.specs.declared.verdict.Census.{Census}
 use Rattle.scan.proofs.Members.{survey_more, survey_done}
 use Rattle.checking.specs.declared.walk.Phase.TheVariants.{Missing}

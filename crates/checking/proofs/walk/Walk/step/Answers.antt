@@ -1,7 +1,7 @@
-use Rattle.std.proofs.Common.{◌≡◌, ℕ, ◌+◌, ◌-◌, ◌*◌, ◌<◌, ◌≤◌, sym, refl, ap, ◌∙◌, arith}
+use Rattle.std.proofs.Common.{sym, ◌∙◌, arith}
 use Rattle.tally.specs.Tallies.{scan_of}
 use Rattle.tally.proofs.Meets.{unclaimed_most}
-use Rattle.checking.specs.declared.walk.Phase.TheVariants.{Files, Free, Missing}
+use Rattle.checking.specs.declared.walk.Phase.TheVariants.{Files, Free}
 use Rattle.checking.specs.declared.met.Met.TheVariants.{End}
 use Rattle.checking.specs.ListLeft.{list_left}
 use Rattle.checking.proofs.Phases.{after_at, turns_at, worth_at, list_begins, report_is, enter_turns, enter_spent, leave_turns, leave_spent}

@@ -1,4 +1,4 @@
-use Rattle.std.proofs.Common.{◌≡◌, sym, ◌∙◌}
+use Rattle.std.proofs.Common.{sym, ◌∙◌}
 use Rattle.images.specs.Images.{image}
 use Rattle.images.proofs.Pairs.{length_mirrored, sized_mirrored}
 use Rattle.images.proofs.swapped.SwappedDisk.count.Goals as goal

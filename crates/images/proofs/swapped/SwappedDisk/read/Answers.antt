@@ -1,4 +1,4 @@
-use Rattle.std.proofs.Common.{◌≡◌, length, Ok, Err, sym, ◌∙◌, arith}
+use Rattle.std.proofs.Common.{length, Ok, Err, sym, ◌∙◌, arith}
 use Rattle.std.proofs.lemmas.Result.{err_from_is_err_and}
 use Rattle.images.specs.Images.{image}
 use Rattle.disk.proofs.Served.{counted, admitted, served, refused_same}

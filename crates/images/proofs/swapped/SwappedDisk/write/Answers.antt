@@ -1,7 +1,7 @@
-use Rattle.std.proofs.Common.{◌≡◌, ℕ, length, Ok, Err, sym, refl, ap, ◌∙◌}
+use Rattle.std.proofs.Common.{◌≡◌, ℕ, length, Err, sym, refl, ap, ◌∙◌}
 use Rattle.std.proofs.lemmas.Result.{err_from_is_err_and}
 use Rattle.disk.specs.Disks.{answer}
-use Rattle.images.specs.Images.{image, dump, swapped}
+use Rattle.images.specs.Images.{image, swapped}
 use Rattle.disk.proofs.Served.{counted, refused_same}
 use Rattle.images.proofs.Pairs.{mirrored, length_swapped, length_mirrored, write_mirrored}
 use Rattle.images.proofs.swapped.SwappedDisk.write.Goals as goal

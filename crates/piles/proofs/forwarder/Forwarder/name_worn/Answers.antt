@@ -8,7 +8,7 @@ pub invariant_of-self : goal.invariant_of-self
 invariant_of-self g c =
     let few = lawful_few c.count-count.result c.args.worn.now (sym c.lawful.ensures ∙ c.if-not-lawful.false) in
     let e = ap length c.copy_from_slice.ensures.after in
-    record { few = (few, simp (length-append, length-drop) (omega arith)); }
+    record { few = (few, simp (length-append, length-drop) (omega arith)) }
 
 pub returns : goal.returns
 returns g c =

@@ -1,4 +1,4 @@
-use Rattle.std.proofs.Common.{◌≡◌, ◌<◌, ◌≤◌, ◌⊎◌, get_or, sym, refl, ◌∙◌, inl, inr, ⊎_elim, arith, rules}
+use Rattle.std.proofs.Common.{◌≡◌, ◌<◌, ◌≤◌, ◌⊎◌, get_or, inl, inr, arith, rules}
 use Rattle.tally.specs.Tallies.{scan_of}
 use Rattle.tally.proofs.Meets.{opens_bad, opens_again, opens_is, met_bad, met_again, met_is, unclaimed_set}
 use Rattle.tally.proofs.tally.Tally.meet.Goals as goal

@@ -1,6 +1,6 @@
-use Rattle.std.proofs.Common.{◌≡◌, length, sym, refl, ap, ◌∙◌, rules}
+use Rattle.std.proofs.Common.{length, refl}
 use Rattle.rules.specs.Calls.{done, refused}
-use Rattle.volume.specs.Answers.{clear_says, sizes_of}
+use Rattle.volume.specs.Answers.{sizes_of}
 use Rattle.volume.proofs.Runs.{clear_carries}
 use Rattle.volume.proofs.held.Found.clear.Goals as goal
 
