@@ -1,6 +1,6 @@
 -- The free list is a stack: take is uncons, give is cons.
 use Rattle.std.specs.Prelude.{◌≡◌, ℕ, ◌+◌, ◌-◌, ◌<◌, ◌≤◌, true, cond, ◌⊎◌, List, [], ◌∷◌, ◌++◌, length, ◌==◌, ◌≢◌, slice_index, slice_set}
-use Rattle.std.specs.List.{AllByRecursion as All}
+use Rattle.std.specs.List.{AllByRecursion}
 use Rattle.fault.specs.declared.fault.ListFault.TheVariants.{Empty}
 use Rattle.disk.specs.Medium.{Sectors, Sized, Write, after}
 use Rattle.numbers.specs.Laws.{Apart}
@@ -27,7 +27,7 @@ Among b (c ∷ L) = (c ≡ b) ⊎ Among b L
 
 -- every block of L is a data block
 abbrev pub AllData : ℕ → ℕ → List ℕ → Type 0
-AllData lo hi L = All (λ b. is_data lo hi b ≡ true) L
+AllData lo hi L = AllByRecursion (λ b. is_data lo hi b ≡ true) L
 
 -- OVER PAGES
 module _ (Y : Chain) where
@@ -129,21 +129,21 @@ MemberWrite L w = Among w.0 L × (length w.1 ≡ block_bytes)
 pub record GivesAll (lo hi : ℕ) (S : Sectors) (s L M : List ℕ) : Type 0 where
   pub lists : ListsBlocks lo hi (after (gave_all L s).0 S) (gave_all L s).1 (L ++ M)
   pub total : tfree_of s + length L ≤ most_total → tfree_of (gave_all L s).1 ≡ tfree_of s + length L
-  pub written : All (MemberWrite L) (gave_all L s).0
+  pub written : AllByRecursion (MemberWrite L) (gave_all L s).0
   pub others : SameElsewhere s (gave_all L s).1
 
 -- giving data blocks, none of them listed and none given twice, lists them all in front
 abbrev pub GivingListsAll : Type 0
 GivingListsAll =
     (lo hi : ℕ) (S : Sectors) (s L M : List ℕ) → hi ≤ length S → length s ≡ block_bytes
-    → AllData lo hi L → Distinct L → All (λ b. Out b M) L → ListsBlocks lo hi S s M → GivesAll lo hi S s L M
+    → AllData lo hi L → Distinct L → AllByRecursion (λ b. Out b M) L → ListsBlocks lo hi S s M → GivesAll lo hi S s L M
 
 -- a list made anew of the blocks L
 pub record Relists (lo hi : ℕ) (S : Sectors) (s L : List ℕ) : Type 0 where
   pub lists : ListsBlocks lo hi (after (gave_all L (emptied s)).0 S) (gave_all L (emptied s)).1 L
   pub total : length L ≤ most_total → tfree_of (gave_all L (emptied s)).1 ≡ length L
   pub unlocked : flock_of (gave_all L (emptied s)).1 ≡ 0
-  pub written : All (MemberWrite L) (gave_all L (emptied s)).0
+  pub written : AllByRecursion (MemberWrite L) (gave_all L (emptied s)).0
   pub long : length (gave_all L (emptied s)).1 ≡ length s
   pub same : (k : ℕ) → Elsewhere k → (k ≢ at_flock) → slice_index (gave_all L (emptied s)).1 k ≡ slice_index s k
 
@@ -156,7 +156,7 @@ RelistingListsExactly =
 pub record Unclaimed (codes : List ℕ) (lo hi : ℕ) (L : List ℕ) : Type 0 where
   pub data_blocks : AllData lo hi L
   pub distinct : Distinct L
-  pub unclaimed : All (λ b. slice_index codes b ≡ 0) L
+  pub unclaimed : AllByRecursion (λ b. slice_index codes b ≡ 0) L
   pub every : (b : ℕ) → is_data lo hi b ≡ true → slice_index codes b ≡ 0 → Among b L
 
 abbrev pub UnclaimedAreEachOnce : Type 0

@@ -1,6 +1,6 @@
 -- What a walk through all files and the free list finds, by counting.
 use Rattle.std.specs.Prelude.{◌≡◌, ℕ, ◌+◌, ◌*◌, ◌<◌, ◌≤◌, List, length}
-use Rattle.std.specs.List.{AllByRecursion as All}
+use Rattle.std.specs.List.{AllByRecursion}
 use Rattle.trees.specs.Trees.{count, named, Absent}
 use Rattle.trees.specs.Walk.{Scan, code, Data, walk}
 use Rattle.trees.specs.Volume.{claims, file_phase, free_phase, missing}
@@ -47,8 +47,8 @@ FilesSayEachBlockOnce =
 abbrev pub NoFindingSaysSound : Type 0
 NoFindingSaysSound =
     (w : ℕ) (at : ℕ → ℕ → ℕ) → Absent at → (depth : ℕ → ℕ) (lo hi I J : ℕ) → 0 < lo → (head : ℕ → ℕ → ℕ) (free : List ℕ) (s : Scan) → Blank hi s
-    → ((phases w at depth lo hi I J head free s).found ≡ 0 → Sound lo hi w at depth I J head free × All (λ x. 0 < x) free)
-    × (Sound lo hi w at depth I J head free × All (λ x. 0 < x) free → (phases w at depth lo hi I J head free s).found ≡ 0)
+    → ((phases w at depth lo hi I J head free s).found ≡ 0 → Sound lo hi w at depth I J head free × AllByRecursion (λ x. 0 < x) free)
+    × (Sound lo hi w at depth I J head free × AllByRecursion (λ x. 0 < x) free → (phases w at depth lo hi I J head free s).found ≡ 0)
 
 -- each code then is 1 for a claim of a file and 2 for one of the list
 abbrev pub CodesSayTheClaims : Type 0
