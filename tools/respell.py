@@ -21,6 +21,9 @@ FACT_OR_LABEL = [
 ]
 TOKEN = re.compile(r"[A-Za-z_\u0370-\u03ff\u2080-\u209c][\w'?\u2080-\u209c-]*")
 HEAD = re.compile(r"\s*(?:pub |abbrev |unfoldable |data |record |let |in |where )*([A-Za-z_][\w'?-]*)\s*(?:\{|\(|:)")
+ALIAS = re.compile(r" as ([A-Za-z_][\w'?-]*)")
+# Names of this repository that the check makes names like.
+OWN_THOUGH_CITED = {"data-blocks", "load-member"}
 BOUND = re.compile(r"(?:let|λ|\()\s*([A-Za-z_][\w'?-]*)\s*(?::|=|\.)\s")
 IMPORT = re.compile(r"use Rattle\.(?:std|core)[\w.'-]*\.\{([^}]*)\}")
 CITED = re.compile(r"\b(?:c|l|g|goal|given|rec)((?:\.[\w'?-]+)+)")
@@ -50,12 +53,17 @@ def collect(files):
                 declared.add(m.group(1))
             for m in BOUND.finditer(line):
                 declared.add(m.group(1))
+            if line.startswith("use "):
+                declared.update(ALIAS.findall(line))
         for m in IMPORT.finditer(bare):
             imported.update(re.split(r"[,\s]+", m.group(1)))
         for m in CITED.finditer(bare):
             cited.update(m.group(1).split(".")[1:])
+    for path in sorted(glob.glob("crates/*/src/**/*.rt", recursive=True)):
+        with open(path, encoding="utf-8") as f:
+            declared.update(a for line in f if line.startswith("ghost use ") for a in ALIAS.findall(line))
     own = {n for n in declared if is_mine(n)}
-    return own - imported - (cited - {"data-blocks"}), own & imported, own & cited
+    return own - imported - (cited - OWN_THOUGH_CITED), own & imported, own & cited
 
 
 def spelled(name):

@@ -1,5 +1,5 @@
 ghost use Rattle.std.specs.Prelude.{◌≡◌};
-ghost use Rattle.format.specs.Position.{split as split-rule};
+ghost use Rattle.format.specs.Position.{split as split_rule};
 
 use crate::layout::{DIRECT_SLOTS, TABLE_WIDTH};
 
@@ -12,7 +12,7 @@ pub const POSITIONS: u32 = END_OF_TWO + TABLE_WIDTH * TABLE_WIDTH * TABLE_WIDTH;
 
 // The slot of a position, its depth, and the index at each depth, the outermost first; None past the last position.
 pub fn split(position: u32) -> Option<(u32, u32, u32, u32, u32)>
-    ensures { result ≡ split-rule position }
+    ensures { result ≡ split_rule position }
 {
     if position < DIRECT_SLOTS {
         return Some((position, 0, 0, 0, 0));

@@ -14,7 +14,7 @@ use Rattle.numbers.proofs.Numbers.{put_length, num_put, num_apart, num_set, num_
 use Rattle.format.specs.Layout.{block_bytes, list_room}
 use Rattle.format.specs.Superblock.{at_nfree, at_free, at_tfree, at_flock, nfree_of, free_at, free_of, tfree_of, flock_of}
 use Rattle.freelist.specs.Stack.{Free, Out, most_total}
-use Rattle.freelist.specs.Stack.{took as taking, refused as no-taking}
+use Rattle.freelist.specs.Stack.{took as taking, refused as no_taking}
 use Rattle.freelist.specs.Chain.{chain}
 use Rattle.freelist.specs.Bytes.{Taken, took, refused, in_pages, member_bytes, entries_bytes, free_list_of, take_bytes, give_bytes, give_writes, gave_all, unclaimed, emptied}
 use Rattle.freelist.specs.Laws.{Distinct, Among, AllData, Elsewhere, SameElsewhere, ListsBlocks, TakeGivesTheFirst, TakeFromAnEmptyList, GiveListsInFront, WritesBelowLeaveTheList, EmptiedListsNothing, MemberWrite, GivingListsAll, RelistingListsExactly, UnclaimedAreEachOnce}
@@ -32,7 +32,7 @@ took_back (took a s j) b f m h =
     (s, (rw (p, q)), e)
 took_back (refused l) b f m h = let z : ◌≡◌ {A = ℕ} 0 1 = cc in absurd (omega arith)
 
-refused_back : (t : Taken) (l : ListFault) → in_pages t ≡ no-taking l → t ≡ refused l
+refused_back : (t : Taken) (l : ListFault) → in_pages t ≡ no_taking l → t ≡ refused l
 refused_back (took a s j) l h = let z : ◌≡◌ {A = ℕ} 0 1 = cc in absurd (omega arith)
 refused_back (refused k) l h = let e : k ≡ l = cc in rw e
 

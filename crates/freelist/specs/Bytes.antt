@@ -7,7 +7,7 @@ use Rattle.numbers.specs.Numbers.{num, put_num, nums}
 use Rattle.format.specs.Layout.{block_bytes, list_room}
 use Rattle.format.specs.Superblock.{at_nfree, at_free, at_tfree, at_flock, nfree_of, free_at, free_of, tfree_of}
 use Rattle.freelist.specs.Stack.{Page, Free, Taking, is_data, most_total}
-use Rattle.freelist.specs.Stack.{took as taking, refused as no-taking}
+use Rattle.freelist.specs.Stack.{took as taking, refused as no_taking}
 
 unfoldable pub zeros : ℕ → List ℕ
 zeros n = replicate n 0
@@ -83,7 +83,7 @@ pub data Taken : Type 0 where
 -- the same over pages
 abbrev pub in_pages : Taken → Taking
 in_pages (took b s m) = taking b (free_list_of s) m
-in_pages (refused f) = no-taking f
+in_pages (refused f) = no_taking f
 
 abbrev pub load_bytes : List ℕ → ℕ → ℕ → List ℕ → Taken
 load_bytes x b m s = cond (nat_lt list_room (member_count x)) (refused (Bad (m + 1))) (took b (lowered (loaded x s)) (m + 1))

@@ -7,7 +7,7 @@ use Rattle.numbers.specs.Laws.{Apart}
 use Rattle.format.specs.Layout.{block_bytes}
 use Rattle.format.specs.Superblock.{at_nfree, at_tfree, at_flock, tfree_of, flock_of}
 use Rattle.freelist.specs.Stack.{Free, Chain, is_data, Lists, Takes, taken, given, Out, most_total}
-use Rattle.freelist.specs.Stack.{refused as refused-taking}
+use Rattle.freelist.specs.Stack.{refused as refused_taking}
 use Rattle.freelist.specs.Chain.{chain}
 use Rattle.freelist.specs.Bytes.{entries_bytes, took, refused, free_list_of, take_bytes, give_bytes, give_writes, gave_all, unclaimed, emptied}
 
@@ -37,7 +37,7 @@ module _ (Y : Chain) where
 
   -- an empty list gives none
   abbrev pub EmptyGivesNone : Type 0
-  EmptyGivesNone = (lo hi : ℕ) (S : Sectors) (m : ℕ) (f : Free) → Lists Y lo hi S f [] → taken Y lo hi S m f ≡ refused-taking (Empty m)
+  EmptyGivesNone = (lo hi : ℕ) (S : Sectors) (m : ℕ) (f : Free) → Lists Y lo hi S f [] → taken Y lo hi S m f ≡ refused_taking (Empty m)
 
   -- give puts its block in front; x is what a full page is laid down as
   abbrev pub GiveIsCons : Type 0

@@ -36,14 +36,14 @@ most_total = 2 ^ 32 - 1
 
 module _ (Y : Chain) (lo hi : ℕ) where
   -- the member in block b is loaded: its entries take the place of the superblock's
-  abbrev pub load-member : Page → ℕ → ℕ → ℕ → Taking
-  load-member q t b m = cond (nat_lt Y.room q.count) (refused (Bad (m + 1))) (took b (record { page = q; total = t - 1 }) (m + 1))
+  abbrev pub load_member : Page → ℕ → ℕ → ℕ → Taking
+  load_member q t b m = cond (nat_lt Y.room q.count) (refused (Bad (m + 1))) (took b (record { page = q; total = t - 1 }) (m + 1))
 
   -- entry 0 ends the list or is a chain member
   abbrev pub take_first : ℕ → Sectors → ℕ → ℕ → Taking
   take_first a S t m =
       cond (a == 0) (refused (Empty m))
-      (cond (is_data lo hi a) (load-member (Y.page_of (slice_index_or S a [])) t a m) (refused (Bad m)))
+      (cond (is_data lo hi a) (load_member (Y.page_of (slice_index_or S a [])) t a m) (refused (Bad m)))
 
   abbrev pub take_entry : ℕ → List ℕ → Sectors → ℕ → ℕ → Taking
   take_entry zero e S t m = refused (Empty m)

@@ -9,7 +9,7 @@ use Rattle.format.specs.Inode.{mode_of, type_bits, address_of, inode_type, claim
 use Rattle.format.specs.Sizes.{inodes_of}
 use Rattle.format.specs.declared.inode.InodeType.{InodeType}
 use Rattle.format.specs.declared.inode.InodeType.TheVariants.{Unused, Regular, Directory, Special, Unknown}
-use Rattle.trees.specs.Walk.{Scan as Count, meet, steps, walk as tree-walk}
+use Rattle.trees.specs.Walk.{Scan as Count, meet, steps, walk as tree_walk}
 use Rattle.trees.specs.Volume.{file_phase}
 use Rattle.verdict.specs.Scan.{Scan, rows, slots_from, by_type, inode, files}
 use Rattle.verdict.specs.Sound.{inode_block, head, entry}
@@ -22,8 +22,8 @@ unfolding steps
 steps_idle zero g h s = refl
 steps_idle (suc n) g h s = h n (steps n g s) ∙ steps_idle n g h s
 
-absent_tree : (w : ℕ) (at : ℕ → ℕ → ℕ) (lo hi d : ℕ) (s : Count) → tree-walk w at lo hi d 0 s ≡ s
-unfolding tree-walk meet
+absent_tree : (w : ℕ) (at : ℕ → ℕ → ℕ) (lo hi d : ℕ) (s : Count) → tree_walk w at lo hi d 0 s ≡ s
+unfolding tree_walk meet
 absent_tree w at lo hi zero s = refl
 absent_tree w at lo hi (suc d) s = refl
 
@@ -47,7 +47,7 @@ turns_clean g K up h (suc n) s e k l =
 module _ (S : Sectors) (lo hi : ℕ) where
   -- an inode in block b, by its type
   type_seen : (t : InodeType) (b : List ℕ) (i : ℕ) (s : Scan) → known_type t ≡ true
-      → seen (by_type t S lo hi b i s) ≡ steps slots (λ j. tree-walk table_width (entry S) lo hi (depth_of j) (cond (claims_blocks t) (address_of i j b) 0)) (seen s)
+      → seen (by_type t S lo hi b i s) ≡ steps slots (λ j. tree_walk table_width (entry S) lo hi (depth_of j) (cond (claims_blocks t) (address_of i j b) 0)) (seen s)
   unfolding slots_from
   type_seen Unused b i s k = sym (steps_idle slots _ (λ j t. absent_tree table_width (entry S) lo hi (depth_of j) t) (seen s))
   type_seen Regular b i s k = rest_seen _ _ slots (λ j t l. walk_seen S lo hi (Slot i j) (depth_of j) (address_of i j b) t) s
@@ -78,7 +78,7 @@ module _ (S : Sectors) (lo hi : ℕ) where
   block_same k = let e : suc k - 1 ≡ k = omega arith in rw e
 
   inode_seen : (k : ℕ) (s : Scan) → known_type (inode_type (suc k) (inode_block S (suc k))) ≡ true
-      → seen (inode S lo hi (block k) (k + 1) s) ≡ steps slots (λ j. tree-walk table_width (entry S) lo hi (depth_of j) (head S (suc k) j)) (seen s)
+      → seen (inode S lo hi (block k) (k + 1) s) ≡ steps slots (λ j. tree_walk table_width (entry S) lo hi (depth_of j) (head S (suc k) j)) (seen s)
   unfolding inode head
   inode_seen k s e = rw (add-one, ← (block_same k)) (type_seen (inode_type (suc k) (inode_block S (suc k))) (inode_block S (suc k)) (suc k) s e)
 

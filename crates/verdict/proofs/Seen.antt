@@ -7,7 +7,7 @@ use Rattle.fault.specs.declared.finding.Kind.TheVariants.{BadAddress, SecondClai
 use Rattle.fault.specs.declared.finding.Finding.{Finding}
 use Rattle.disk.specs.Medium.{Sectors}
 use Rattle.format.specs.Layout.{table_width}
-use Rattle.trees.specs.Walk.{Scan as Count, is_open, follow, meet, steps, walk as tree-walk}
+use Rattle.trees.specs.Walk.{Scan as Count, is_open, follow, meet, steps, walk as tree_walk}
 use Rattle.verdict.specs.Scan.{Log, all, shown, push, Scan, note, claim, opens, met, rows, rest, walk, table_entry}
 use Rattle.verdict.specs.Sound.{entry}
 use Rattle.verdict.proofs.Rows.{rows_none, rows_last, rest_keep, rest_all}
@@ -151,8 +151,8 @@ module _ (S : Sectors) (lo hi : ℕ) where
   entry_is a k = refl
 
   -- a tree
-  pub walk_seen : (p : Place) (d a : ℕ) (s : Scan) → seen (walk S lo hi p d a s) ≡ tree-walk table_width (entry S) lo hi d a (seen s)
-  unfolding walk tree-walk meet follow
+  pub walk_seen : (p : Place) (d a : ℕ) (s : Scan) → seen (walk S lo hi p d a s) ≡ tree_walk table_width (entry S) lo hi d a (seen s)
+  unfolding walk tree_walk meet follow
   walk_seen p zero zero s = refl
   walk_seen p (suc d) zero s = refl
   walk_seen p zero (suc a) s = rw (some a) (go (opens lo hi (suc a) s.codes) refl)
@@ -162,5 +162,5 @@ module _ (S : Sectors) (lo hi : ℕ) where
       go false e = rw (opens_same lo hi (suc a) s, e) (met_shut lo hi 1 BadAddress SecondClaim p (suc a) s e)
   walk_seen p (suc d) (suc a) s =
       rw (some a)
-      (table_seen p a s (λ j. walk S lo hi p d (table_entry (get_or S (suc a) []) j)) (λ j. tree-walk table_width (entry S) lo hi d (entry S (suc a) j))
+      (table_seen p a s (λ j. walk S lo hi p d (table_entry (get_or S (suc a) []) j)) (λ j. tree_walk table_width (entry S) lo hi d (entry S (suc a) j))
       (λ j t. rw (entry_is a j) (walk_seen p d (table_entry (get_or S (suc a) []) j) t)))

@@ -15,7 +15,7 @@ use Rattle.trees.specs.Walk.{Scan as Count, code, Data}
 use Rattle.trees.specs.Volume.{claims, file_phase, free_phase, missing}
 use Rattle.trees.specs.Laws.{Sound, Blank, phases}
 use Rattle.trees.proofs.Sums.{total_same, total_count}
-use Rattle.trees.proofs.Files.{filed as files-counted}
+use Rattle.trees.proofs.Files.{filed as files_counted}
 use Rattle.trees.proofs.Checks.{free_up, no_finding, codes_said, none_is_missing}
 use Rattle.verdict.specs.declared.verdict.Census.{Census}
 use Rattle.verdict.specs.Scan.{Log, all, shown, Scan, files, free_list, survey, nothing, report}
@@ -263,12 +263,12 @@ module _ (S : Sectors) (lo hi : ℕ) (bounds : Bounds lo hi) where
       let n : found_in filed.log ≡ 0 = sym (whole_found filed.log filed_whole) ∙ ap length e in
       let known = files_known S lo hi (blank hi) n in
       let f : file_counts.found ≡ 0 = sym (ap (λ (c : Count). c.found) (files_seen S lo hi known (blank hi))) ∙ n in
-      let r = (files-counted table_width (entry S) (entry_absent S) depth_of lo hi (inodes_of lo) slots heads (seen (blank hi)) (blank_is hi).long (blank_is hi).none).0.0 f in
+      let r = (files_counted table_width (entry S) (entry_absent S) depth_of lo hi (inodes_of lo) slots heads (seen (blank hi)) (blank_is hi).long (blank_is hi).none).0.0 f in
       record { types = known; addresses = λ b q. r.0 b (let i = claims_is b in omega arith); most = λ b. let i = claims_is b in omega (arith, r.1 b) }
 
   lawful_counts : FilesLawful S lo hi → file_counts.found ≡ 0
   lawful_counts h =
-      (files-counted table_width (entry S) (entry_absent S) depth_of lo hi (inodes_of lo) slots heads (seen (blank hi)) (blank_is hi).long (blank_is hi).none).0.1
+      (files_counted table_width (entry S) (entry_absent S) depth_of lo hi (inodes_of lo) slots heads (seen (blank hi)) (blank_is hi).long (blank_is hi).none).0.1
       ((λ b q. h.addresses b (let i = claims_is b in omega arith)), λ b. let i = claims_is b in omega (arith, h.most b))
 
   files_clean : FilesLawful S lo hi → findings_in filed.log ≡ []
@@ -277,7 +277,7 @@ module _ (S : Sectors) (lo hi : ℕ) (bounds : Bounds lo hi) where
   files_codes : FilesLawful S lo hi → (b : ℕ) → get_or filed.codes b 0 ≡ claims_on S lo b
   files_codes h b =
       ap (λ (c : Count). code c b) (files_seen S lo hi h.types (blank hi))
-      ∙ (files-counted table_width (entry S) (entry_absent S) depth_of lo hi (inodes_of lo) slots heads (seen (blank hi)) (blank_is hi).long (blank_is hi).none).1 (lawful_counts h) b
+      ∙ (files_counted table_width (entry S) (entry_absent S) depth_of lo hi (inodes_of lo) slots heads (seen (blank hi)) (blank_is hi).long (blank_is hi).none).1 (lawful_counts h) b
       ∙ sym (claims_is b)
 
 filed_length : (S : Sectors) (lo hi : ℕ) → length (files_of S lo hi).codes ≡ hi

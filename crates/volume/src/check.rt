@@ -1,7 +1,7 @@
 ghost use Rattle.std.specs.Prelude.{◌≡◌, ℕ, ◌<◌, ◌≤◌, List, [], length, IfOk, OnOk, slice_index_or};
 ghost use Rattle.format.specs.Layout.{block_bytes, superblock};
 ghost use Rattle.rules.specs.Calls.{same_sizes, may_check, check_answer, scratch_after, findings_after};
-ghost use Rattle.rules.specs.Runs.{check as check-call};
+ghost use Rattle.rules.specs.Runs.{check as check_call};
 ghost use Rattle.rules.specs.Promises.{CarriesOn};
 ghost use Rattle.volume.specs.Answers.{looked_up, check_says, sizes_of};
 
@@ -53,7 +53,7 @@ pub fn check<D: Disk, V: Volume>(
     ensures answer { check_says result ≡ check_answer (D.Disk.medium d.now).sectors (length findings.old) (may_check (V.Volume.sizes held.now) (length scratch.old) (D.Disk.medium d.now).sectors) }
     ensures scratch { scratch.new ≡ scratch_after (D.Disk.medium d.now).sectors (may_check (V.Volume.sizes held.now) (length scratch.old) (D.Disk.medium d.now).sectors) scratch.old }
     ensures findings { findings.new ≡ findings_after (D.Disk.medium d.now).sectors (may_check (V.Volume.sizes held.now) (length scratch.old) (D.Disk.medium d.now).sectors) findings.old }
-    ensures runs { CarriesOn (check-call (V.Volume.sizes held.now) (length scratch.old) (length findings.old)) (D.Disk.medium d.now) (check_says result) (D.Disk.medium d.now) }
+    ensures runs { CarriesOn (check_call (V.Volume.sizes held.now) (length scratch.old) (length findings.old)) (D.Disk.medium d.now) (check_says result) (D.Disk.medium d.now) }
 {
     let mut sb = [0u8; 512];
     let sizes = may_check(d, held.geometry(), scratch.len(), &mut sb)?;

@@ -1,7 +1,7 @@
 ghost use Rattle.std.specs.Prelude.{◌≡◌, ℕ, ◌<◌, ◌≤◌, List, [], length, IfOk};
 ghost use Rattle.format.specs.Layout.{block_bytes, superblock};
 ghost use Rattle.rules.specs.Calls.{may_clear, clear_answer, scratch_after, findings_after};
-ghost use Rattle.rules.specs.Runs.{clear as clear-call};
+ghost use Rattle.rules.specs.Runs.{clear as clear_call};
 ghost use Rattle.rules.specs.Promises.{CarriesOn};
 ghost use Rattle.volume.specs.Answers.{looked_up, clear_says, make_says, cleared_sizes, sizes_of};
 
@@ -60,7 +60,7 @@ impl Found {
         ensures volume { cleared_sizes result ≡ sizes_of self.sizes }
         ensures scratch { scratch.new ≡ scratch_after (D.Disk.medium d.now).sectors (may_clear (sizes_of self.sizes) (length scratch.old) (D.Disk.medium d.now).sectors) scratch.old }
         ensures findings { findings.new ≡ findings_after (D.Disk.medium d.now).sectors (may_clear (sizes_of self.sizes) (length scratch.old) (D.Disk.medium d.now).sectors) findings.old }
-        ensures runs { CarriesOn (clear-call (sizes_of self.sizes) (length scratch.old) (length findings.old)) (D.Disk.medium d.now) (clear_says result) (D.Disk.medium d.now) }
+        ensures runs { CarriesOn (clear_call (sizes_of self.sizes) (length scratch.old) (length findings.old)) (D.Disk.medium d.now) (clear_says result) (D.Disk.medium d.now) }
     {
         let Found { sizes } = self;
         match inspect(d, sizes, scratch, findings) {
