@@ -1,2 +1,4 @@
 pub mod Opens
+pub mod Inodes
+pub mod Lists
 pub mod Phases

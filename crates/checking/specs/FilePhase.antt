@@ -2,12 +2,8 @@
 use Rattle.std.specs.Prelude.{ℕ, List, ◌++◌, drop}
 use Rattle.fault.specs.declared.finding.Finding.{Finding}
 use Rattle.disk.specs.Medium.{Sectors}
-use Rattle.verdict.specs.Scan.{Scan, shown, files}
+use Rattle.verdict.specs.Scan.{Scan, files}
 use Rattle.verdict.specs.Verdict.{findings_in, blank}
-
--- a scan that starts at some codes, with a list that shows no finding yet
-abbrev pub fresh : List ℕ → List Finding → Scan
-fresh cs l = record { codes = cs; log = shown l 0 0 }
 
 -- the scan of all files, from no codes and no findings
 abbrev pub file_scan : Sectors → ℕ → ℕ → Scan

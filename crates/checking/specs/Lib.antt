@@ -1,3 +1,4 @@
+pub mod Tables
 pub mod FilesLeft
 pub mod ListLeft
 pub mod Resume

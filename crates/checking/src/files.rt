@@ -1,41 +1,45 @@
-ghost use Rattle.std.specs.Prelude.{◌≡◌, ℕ, ◌+◌, ◌-◌, ◌*◌, ◌^◌, ◌<◌, ◌≤◌, List, [], length};
-ghost use Rattle.disk.specs.Medium.{Sectors};
+ghost use Rattle.std.specs.Prelude.{◌≡◌, ◌+◌, ◌*◌, ◌^◌, ◌<◌, ◌≤◌};
 ghost use Rattle.format.specs.Layout.{slots};
 ghost use Rattle.format.specs.Sizes.{inodes_of};
-ghost use Rattle.verdict.specs.Scan.{Scan, files};
-ghost use Rattle.tally.specs.Tallies.{scan_of, unclaimed};
-ghost use Rattle.checking.specs.declared.met.Met.TheVariants.{Address, Inode};
-ghost use Rattle.checking.specs.FilesLeft.{files_left, files_after, FilesReady, Numbered, file_turns, claim_turns, worth};
+ghost use Rattle.verdict.specs.Scan.{Scan};
+ghost use Rattle.format.specs.Area.{Area};
+ghost use Rattle.tally.specs.Notes.{scan_of, unclaimed, SameLists};
+ghost use Rattle.checking.specs.declared.met.InFile.TheVariants.{Address, Inode as AnInode};
 
-use crate::level::{Level, Open, advance, open_table};
-use crate::met::Met;
-use disk::disk::{Disk, get};
+use crate::level::{Level, Open};
+use crate::met::InFile;
+use disk::disk::Disk;
 use fault::finding::{Finding, Kind};
 use fault::place::Place;
-use format::geometry::Geometry;
-use format::inode::{InodeType, address as slot_address, block_of, inode_type, mode};
-use format::layout::{DIRECT_SLOTS, SLOTS, TABLE_WIDTH};
-use tally::tally::{Claim, Tally};
+use format::inode::{Inode, InodeType, Part, type_bits};
+use format::layout::{BLOCK_BYTES, Block, DIRECT_SLOTS, SLOTS, TABLE_WIDTH};
+use format::number::Number;
+use format::on_disk::OnDisk;
+use tally::claim::{Claim, Claimant};
+use tally::notes::Notes;
 
-// The walk through the files: the open tables, the inode with its block, its next slot, and the place of the slot before it.
-#[derive(Clone, Copy)]
+// The walk through the files: the open tables, the inode with its block, its next slot, and the place of the slot before it. Only an inode that has begun has slots left.
+#[derive(Clone, Copy, Debug, PartialEq, Eq, Hash)]
 pub struct FileWalk {
     pub open: Open,
-    pub node: [u8; 512],
+    pub node: Block,
     pub inode: u32,
     pub slot: u32,
     pub at: Place,
+    ghost begun: { slot < slots → 0 < inode },
 }
 
 impl FileWalk {
-    // Nothing is open, and no inode has begun.
+    ghost use Rattle.checking.specs.FilesLeft.{files_from, files_left, files_after, FilesReady, Numbered, file_turns, claim_turns, file_worth};
+
+    // Nothing is open, and no inode has begun: number 0, which no inode has. An option of an inode would stand in each contract of the walk.
     pub fn new() -> FileWalk
-        ensures left { (ss : Sectors) (lo hi : ℕ) (s : Scan) → files_left ss lo hi result s ≡ files ss lo hi 0 s }
-        ensures turns { (lo : ℕ) → file_turns lo result ≡ 14 * inodes_of lo }
-        ensures numbered { (lo : ℕ) → Numbered lo result }
+        ensures left { (v : Area) (s : Scan) → files_left v result s ≡ files_from v 0 s }
+        ensures turns { (v : Area) → file_turns v result ≡ 14 * inodes_of v.sizes.isize }
+        ensures numbered { (v : Area) → Numbered v result }
     {
         let closed = Level {
-            table: [0; 512],
+            table: [0; BLOCK_BYTES],
             next: TABLE_WIDTH,
         };
         FileWalk {
@@ -44,126 +48,110 @@ impl FileWalk {
                 two: closed,
                 three: closed,
             },
-            node: [0; 512],
+            node: [0; BLOCK_BYTES],
             inode: 0,
             slot: SLOTS,
             at: Place::Nowhere,
         }
     }
 
-    // What comes next: the innermost open table is advanced.
-    pub fn next(&mut self, sizes: Geometry) -> Met
-        requires { Numbered sizes.isize self.old }
-        ensures left { (ss : Sectors) (hi : ℕ) (s : Scan) → files_left ss sizes.isize hi self.old s ≡ files_after result ss sizes.isize hi self.new s }
+    // What comes next, if anything does: the innermost open table is advanced.
+    pub fn next<D: Disk>(&mut self, volume: &OnDisk<'_, D>) -> Option<InFile>
+        requires { Numbered volume.now self.old }
+        ensures left { (s : Scan) → files_left volume.now self.old s ≡ files_after result volume.now self.new s }
         ensures ready { FilesReady result self.new }
-        ensures turns { file_turns sizes.isize self.new + worth result ≤ file_turns sizes.isize self.old }
-        ensures numbered { Numbered sizes.isize self.new }
+        ensures turns { file_turns volume.now self.new + file_worth result ≤ file_turns volume.now self.old }
+        ensures numbered { Numbered volume.now self.new }
     {
-        if self.open.one.next < TABLE_WIDTH {
-            let address = advance(&mut self.open.one);
-            return Met::Address { depth: 0, address };
-        }
-        if self.open.two.next < TABLE_WIDTH {
-            let address = advance(&mut self.open.two);
-            return Met::Address { depth: 1, address };
-        }
-        if self.open.three.next < TABLE_WIDTH {
-            let address = advance(&mut self.open.three);
-            return Met::Address { depth: 2, address };
+        if let Some((depth, address)) = self.open.next() {
+            return Some(InFile::Address { depth, address });
         }
         if self.slot < SLOTS {
             let inode = self.inode;
             let slot = self.slot;
             self.slot = slot + 1;
             self.at = Place::Slot { inode, slot };
-            let address = slot_address(&self.node, inode, slot);
-            return Met::Address {
+            let address = Inode::new(inode).part(Part::Slot(slot)).get(&self.node);
+            return Some(InFile::Address {
                 depth: slot.saturating_sub(DIRECT_SLOTS - 1),
                 address,
-            };
+            });
         }
-        if self.inode < sizes.inodes() {
+        if self.inode < volume.sizes().inodes() {
             self.inode += 1;
-            return Met::Inode;
+            return Some(InFile::Inode);
         }
-        Met::End
+        None
+    }
+
+    // One step, by what was met.
+    pub fn step<D: Disk>(&mut self, notes: &mut Notes<'_, D>, met: InFile)
+        requires count { notes.old.count + 1 < 2 ^ 32 }
+        requires ready { FilesReady (Some met) self.old }
+        requires numbered { Numbered notes.old.volume.now self.old }
+        ensures left { files_left notes.old.volume.now self.new (scan_of notes.new) ≡ files_after (Some met) notes.old.volume.now self.old (scan_of notes.old) }
+        ensures turns { file_turns notes.old.volume.now self.new + claim_turns notes.new.codes.now < file_turns notes.old.volume.now self.old + claim_turns notes.old.codes.now + file_worth (Some met) }
+        ensures count { notes.new.count + (file_turns notes.old.volume.now self.new + claim_turns notes.new.codes.now) ≤ notes.old.count + (file_turns notes.old.volume.now self.old + claim_turns notes.old.codes.now) + file_worth (Some met) }
+        ensures unclaimed { unclaimed notes.new.codes.now ≤ unclaimed notes.old.codes.now }
+        ensures numbered { Numbered notes.old.volume.now self.new }
+        ensures same { SameLists notes.old notes.new }
+    {
+        match met {
+            InFile::Address { depth, address } => self.follow(notes, depth, address),
+            InFile::Inode => self.begin(notes),
+        }
     }
 
     // Claims an address that was met, and opens its table where it heads one; what cannot be claimed is not followed.
-    pub fn follow<D: Disk>(
-        &mut self,
-        disk: &D,
-        sizes: Geometry,
-        codes: &mut [u8],
-        findings: &mut [Finding],
-        tally: &mut Tally,
-        depth: u32,
-        address: u32,
-    )
-        requires disk { sizes.fsize ≤ length (D.Disk.medium disk.now).sectors }
-        requires codes { length codes.old ≡ sizes.fsize }
-        requires count { tally.old.count + 1 < 2 ^ 32 }
-        requires ready { FilesReady (Address depth address) self.old }
-        requires numbered { Numbered sizes.isize self.old }
-        ensures left { files_left (D.Disk.medium disk.now).sectors sizes.isize sizes.fsize self.new (scan_of tally.new codes.new findings.new) ≡ files_after (Address depth address) (D.Disk.medium disk.now).sectors sizes.isize sizes.fsize self.old (scan_of tally.old codes.old findings.old) }
-        ensures turns { file_turns sizes.isize self.new + claim_turns codes.new ≤ file_turns sizes.isize self.old + claim_turns codes.old }
-        ensures count { tally.new.count + (file_turns sizes.isize self.new + claim_turns codes.new) ≤ tally.old.count + (file_turns sizes.isize self.old + claim_turns codes.old) + 1 }
-        ensures unclaimed { unclaimed codes.new ≤ unclaimed codes.old }
-        ensures numbered { Numbered sizes.isize self.new }
+    fn follow<D: Disk>(&mut self, notes: &mut Notes<'_, D>, depth: u32, address: u32)
+        requires count { notes.old.count + 1 < 2 ^ 32 }
+        requires ready { FilesReady (Some (Address depth address)) self.old }
+        requires numbered { Numbered notes.old.volume.now self.old }
+        ensures left { files_left notes.old.volume.now self.new (scan_of notes.new) ≡ files_after (Some (Address depth address)) notes.old.volume.now self.old (scan_of notes.old) }
+        ensures turns { file_turns notes.old.volume.now self.new + claim_turns notes.new.codes.now ≤ file_turns notes.old.volume.now self.old + claim_turns notes.old.codes.now }
+        ensures count { notes.new.count + (file_turns notes.old.volume.now self.new + claim_turns notes.new.codes.now) ≤ notes.old.count + (file_turns notes.old.volume.now self.old + claim_turns notes.old.codes.now) + 1 }
+        ensures unclaimed { unclaimed notes.new.codes.now ≤ unclaimed notes.old.codes.now }
+        ensures numbered { Numbered notes.old.volume.now self.new }
+        ensures same { SameLists notes.old notes.new }
     {
         if address == 0 {
             return;
         }
         let claim = Claim {
-            code: 1,
-            bad: Kind::BadAddress,
-            again: Kind::SecondClaim,
+            by: Claimant::File,
             place: self.at,
         };
-        if !tally.meet(sizes, codes, findings, claim, address) {
+        if !notes.meet(claim, address) {
             return;
         }
-        match depth {
-            1 => open_table(&mut self.open.one, disk, address),
-            2 => open_table(&mut self.open.two, disk, address),
-            3 => open_table(&mut self.open.three, disk, address),
-            _ => {}
-        }
+        self.open.open(notes.volume, depth, address);
     }
 
     // Takes up the inode that was met: regular files and directories claim blocks, an unknown type is a finding.
-    pub fn begin<D: Disk>(
-        &mut self,
-        disk: &D,
-        sizes: Geometry,
-        findings: &mut [Finding],
-        tally: &mut Tally,
-    )
-        requires disk { sizes.fsize ≤ length (D.Disk.medium disk.now).sectors }
-        requires count { tally.old.count + 1 < 2 ^ 32 }
-        requires ready { FilesReady Inode self.old }
-        requires numbered { Numbered sizes.isize self.old }
-        ensures left { (cs : List ℕ) → files_left (D.Disk.medium disk.now).sectors sizes.isize sizes.fsize self.new (scan_of tally.new cs findings.new) ≡ files_after Inode (D.Disk.medium disk.now).sectors sizes.isize sizes.fsize self.old (scan_of tally.old cs findings.old) }
-        ensures turns { file_turns sizes.isize self.new ≤ file_turns sizes.isize self.old + slots }
-        ensures count { tally.new.count + file_turns sizes.isize self.new ≤ tally.old.count + file_turns sizes.isize self.old + slots }
-        ensures numbered { Numbered sizes.isize self.new }
+    fn begin<D: Disk>(&mut self, notes: &mut Notes<'_, D>)
+        requires count { notes.old.count + 1 < 2 ^ 32 }
+        requires ready { FilesReady (Some AnInode) self.old }
+        requires numbered { Numbered notes.old.volume.now self.old }
+        ensures left { files_left notes.old.volume.now self.new (scan_of notes.new) ≡ files_after (Some AnInode) notes.old.volume.now self.old (scan_of notes.old) }
+        ensures turns { file_turns notes.old.volume.now self.new ≤ file_turns notes.old.volume.now self.old + slots }
+        ensures count { notes.new.count + file_turns notes.old.volume.now self.new ≤ notes.old.count + file_turns notes.old.volume.now self.old + slots }
+        ensures numbered { Numbered notes.old.volume.now self.new }
+        ensures codes { notes.new.codes.now ≡ notes.old.codes.now }
+        ensures same { SameLists notes.old notes.new }
     {
         let inode = self.inode;
-        get(disk, block_of(inode) as usize, &mut self.node);
-        let bits = mode(&self.node, inode);
-        match inode_type(bits) {
-            InodeType::Regular => self.slot = 0,
-            InodeType::Directory => self.slot = 0,
-            InodeType::Unused => {}
-            InodeType::Special => {}
-            InodeType::Unknown => {
-                let finding = Finding {
-                    kind: Kind::UnknownType,
-                    address: bits as u32 / 4096,
-                    place: Place::Slot { inode, slot: 0 },
-                };
-                tally.note(findings, finding);
-            }
+        let node = Inode::new(inode);
+        notes.volume.read(node.block(), &mut self.node);
+        let mode = node.part(Part::Mode).get(&self.node);
+        // All types stand here, so that none is forgotten; `claims_blocks` would hide two of them.
+        match InodeType::of_mode(mode) {
+            InodeType::Regular | InodeType::Directory => self.slot = 0,
+            InodeType::Unused | InodeType::Special => {}
+            InodeType::Unknown => notes.note(Finding {
+                kind: Kind::UnknownType,
+                address: type_bits(mode),
+                place: Place::Slot { inode, slot: 0 },
+            }),
         }
     }
 }

@@ -1,46 +1,39 @@
-ghost use Rattle.std.specs.Prelude.{◌≡◌, ℕ, ◌+◌, ◌<◌, ◌≤◌, length};
-ghost use Rattle.verdict.specs.Scan.{check};
-ghost use Rattle.verdict.specs.Verdict.{findings_of, verdict_of, kept, scratch_of};
-ghost use Rattle.tally.specs.Tallies.{scan_of};
-ghost use Rattle.checking.specs.FilePhase.{fresh};
-ghost use Rattle.checking.specs.Resume.{done};
+ghost use Rattle.std.specs.Prelude.{◌≡◌, ◌≤◌, length};
+ghost use Rattle.verdict.specs.Verdict.{codes_of, findings_of, verdict_of, kept, scratch_of};
 
 use crate::walk::Walk;
 use disk::disk::Disk;
 use fault::finding::Finding;
-use format::geometry::Geometry;
-use tally::census::judge;
-use tally::codes::clear_codes;
+use format::on_disk::OnDisk;
+use tally::notes::Notes;
 use verdict::verdict::Verdict;
 
-// The three phases, from the codes and findings that are there.
-fn walk_all<D: Disk>(disk: &D, sizes: Geometry, codes: &mut [u8], findings: &mut [Finding]) -> Walk
-    requires disk { sizes.fsize ≤ length (D.Disk.medium disk.now).sectors }
-    requires codes { length codes.old ≡ sizes.fsize }
-    ensures { done result (scan_of result.tally codes.new findings.new) ≡ check (D.Disk.medium disk.now).sectors sizes.isize sizes.fsize (fresh codes.old findings.old) }
+// The check, with a code for each block of the volume.
+fn note_all<D: Disk>(volume: &OnDisk<'_, D>, codes: &mut [u8], findings: &mut [Finding]) -> Verdict
+    requires { length codes.old ≡ volume.now.sizes.fsize }
+    ensures answer { result ≡ verdict_of volume.now.sectors volume.now.sizes.isize volume.now.sizes.fsize (length findings.old) }
+    ensures codes { codes.new ≡ codes_of volume.now.sectors volume.now.sizes.isize volume.now.sizes.fsize }
+    ensures findings { findings.new ≡ kept findings.old (findings_of volume.now.sectors volume.now.sizes.isize volume.now.sizes.fsize) }
 {
+    let mut notes = Notes::new(volume, codes, findings);
     let mut walk = Walk::new();
-    while let Some(met) = walk.next(sizes) {
-        walk.step(disk, sizes, codes, findings, met);
+    while let Some(met) = walk.next(volume) {
+        walk.step(&mut notes, met);
     }
-    walk
+    notes.judge(walk.census)
 }
 
 // Checks a volume: scratch gets the code of each block, and the list the first findings that it has room for.
 pub fn run_check<D: Disk>(
-    disk: &D,
-    sizes: Geometry,
+    volume: &OnDisk<'_, D>,
     scratch: &mut [u8],
     findings: &mut [Finding],
 ) -> Verdict
-    requires disk { sizes.fsize ≤ length (D.Disk.medium disk.now).sectors }
-    requires scratch { sizes.fsize ≤ length scratch.old }
-    ensures answer { result ≡ verdict_of (D.Disk.medium disk.now).sectors sizes.isize sizes.fsize (length findings.old) }
-    ensures scratch { scratch.new ≡ scratch_of (D.Disk.medium disk.now).sectors sizes.isize sizes.fsize scratch.old }
-    ensures findings { findings.new ≡ kept findings.old (findings_of (D.Disk.medium disk.now).sectors sizes.isize sizes.fsize) }
+    requires { volume.now.sizes.fsize ≤ length scratch.old }
+    ensures answer { result ≡ verdict_of volume.now.sectors volume.now.sizes.isize volume.now.sizes.fsize (length findings.old) }
+    ensures scratch { scratch.new ≡ scratch_of volume.now.sectors volume.now.sizes.isize volume.now.sizes.fsize scratch.old }
+    ensures findings { findings.new ≡ kept findings.old (findings_of volume.now.sectors volume.now.sizes.isize volume.now.sizes.fsize) }
 {
-    let codes = &mut scratch[..sizes.fsize() as usize];
-    clear_codes(codes);
-    let walk = walk_all(disk, sizes, codes, findings);
-    judge(walk.tally, walk.census, findings.len())
+    let end = volume.sizes().fsize() as usize;
+    note_all(volume, &mut scratch[..end], findings)
 }

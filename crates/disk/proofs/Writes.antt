@@ -1,6 +1,7 @@
 -- The laws of writes under a power that may fail.
 use Rattle.std.proofs.Common.{◌≡◌, ℕ, zero, suc, ◌+◌, ◌-◌, ◌<◌, ◌≤◌, ◌≢◌, List, [], ◌∷◌, ◌++◌, length, get_or, take, set, sym, refl, ap, ◌∙◌, ⊎_elim, arith, length-append, length-set, take_all, get_or-set_other, get_or-set_same}
-use lib.Seq.{take-append-le, take-append-add}
+use Rattle.std.proofs.lemmas.List.{take-append-le}
+use Rattle.std.proofs.Math.Seq.{take-append-add}
 use Rattle.std.proofs.lemmas.Bool.{cases_lt, cases_eq}
 use Rattle.disk.specs.Medium.{Power, endless, left, Sectors, Sized, Write, Medium, sector_bytes, after, kept, spent, Lasts, ran, NoWriteLaw, JoinedWritesLaw, FirstWritesLaw, AllWritesLaw}
 

@@ -1,7 +1,8 @@
 ghost use Rattle.std.specs.Prelude.{◌≡◌, ℕ, ◌<◌, List, [], ◌∷◌, length, if◌then◌else◌, slice_index_or};
-ghost use Rattle.disk.specs.Medium.{Medium, Sized, ran, sector_bytes};
+ghost use Rattle.disk.specs.Medium.{Medium, Sized, ran};
 ghost use Rattle.disk.specs.Disks.{serves, answer};
 
+use crate::admit::Sector;
 use fault::fault::Fault;
 
 // A row of sectors of 512 bytes. It means its sectors, and a power: the number of writes that can still reach it.
@@ -25,18 +26,16 @@ pub trait Disk {
 }
 
 // A write that is known to be served.
-pub fn put<D: Disk>(d: &mut D, s: usize, b: &[u8])
-    requires within { s < length (D.Disk.medium d.old).sectors }
-    requires sized { length b.now ≡ sector_bytes }
+pub fn put<D: Disk>(d: &mut D, s: usize, b: &Sector)
+    requires { s < length (D.Disk.medium d.old).sectors }
     ensures { D.Disk.medium d.new ≡ ran ((s, b.now) ∷ []) (D.Disk.medium d.old) }
 {
     let _ = d.write(s, b);
 }
 
 // A read that is known to be served.
-pub fn get<D: Disk>(d: &D, s: usize, b: &mut [u8])
-    requires within { s < length (D.Disk.medium d.now).sectors }
-    requires sized { length b.old ≡ sector_bytes }
+pub fn get<D: Disk>(d: &D, s: usize, b: &mut Sector)
+    requires { s < length (D.Disk.medium d.now).sectors }
     ensures { b.new ≡ slice_index_or (D.Disk.medium d.now).sectors s [] }
 {
     let _ = d.read(s, b);

@@ -5,3 +5,4 @@ pub mod fault;
 pub mod finding;
 pub mod place;
 pub mod refusal;
+pub mod status;

@@ -2,6 +2,11 @@
 use Rattle.std.specs.Prelude.{◌≡◌, ℕ, ◌<◌, cond, List, [], ◌∷◌, map, length, Some, None, Option, nat_lt}
 use Rattle.format.specs.Layout.{table_width, slots, depth_of}
 use Rattle.format.specs.Position.{positions, slot_of, path_of}
+use Rattle.format.specs.declared.superblock.Field.TheVariants.{Isize, Fsize, Nfree, Free, Ninode, InodeNumber, Tfree, Tinode, Magic, VolumeType}
+use Rattle.format.specs.declared.inode.Part.TheVariants.{Mode, Nlink, Size, Slot}
+use Rattle.format.specs.Superblock.{isize_of, fsize_of, nfree_of, free_of, ninode_of, inode_of, tfree_of, tinode_of, magic_of, type_of}
+use Rattle.format.specs.Inode.{mode_of, nlink_of, size_of, address_of}
+use Rattle.format.specs.Fields.{field_of, part_of}
 
 -- each index lies within its table
 abbrev pub Within : ℕ → List ℕ → Type 0
@@ -26,3 +31,20 @@ split_table = (9, Some 9) ∷ (10, Some 10) ∷ (137, Some 10) ∷ (138, Some 11
 -- each position of the table reaches its slot
 abbrev pub SplitExamples : Type 0
 SplitExamples = map (λ e. slot_reached e.0) split_table ≡ map (λ e. e.1) split_table
+
+-- each number of a superblock and of an inode is the one that has its name
+pub record FieldsHaveTheirNames : Type 0 where
+  pub isize : (x : List ℕ) → field_of Isize x ≡ isize_of x
+  pub fsize : (x : List ℕ) → field_of Fsize x ≡ fsize_of x
+  pub nfree : (x : List ℕ) → field_of Nfree x ≡ nfree_of x
+  pub free : (k : ℕ) (x : List ℕ) → field_of (Free k) x ≡ free_of k x
+  pub ninode : (x : List ℕ) → field_of Ninode x ≡ ninode_of x
+  pub inode_number : (k : ℕ) (x : List ℕ) → field_of (InodeNumber k) x ≡ inode_of k x
+  pub tfree : (x : List ℕ) → field_of Tfree x ≡ tfree_of x
+  pub tinode : (x : List ℕ) → field_of Tinode x ≡ tinode_of x
+  pub magic : (x : List ℕ) → field_of Magic x ≡ magic_of x
+  pub volume_type : (x : List ℕ) → field_of VolumeType x ≡ type_of x
+  pub mode : (i : ℕ) (x : List ℕ) → part_of i Mode x ≡ mode_of i x
+  pub nlink : (i : ℕ) (x : List ℕ) → part_of i Nlink x ≡ nlink_of i x
+  pub size : (i : ℕ) (x : List ℕ) → part_of i Size x ≡ size_of i x
+  pub address : (i s : ℕ) (x : List ℕ) → part_of i (Slot s) x ≡ address_of i s x

@@ -1,6 +1,9 @@
 pub mod Layout
 pub mod Superblock
 pub mod Inode
+pub mod Fields
+pub mod Tables
 pub mod Position
 pub mod Sizes
 pub mod Laws
+pub mod Area

@@ -4,7 +4,7 @@ ghost use Rattle.format.specs.Sizes.{lawful_sizes, inodes_of, least_isize, most_
 use crate::layout::{FIRST_LIST_BLOCK, INODES_PER_BLOCK, LEAST_ISIZE, MOST_FSIZE, MOST_ISIZE};
 
 // The sizes of a volume: the first data block, and the end of the data blocks.
-#[derive(Clone, Copy)]
+#[derive(Clone, Copy, Debug, PartialEq, Eq, Hash)]
 pub struct Geometry {
     isize: u32,
     fsize: u32,

@@ -1,22 +1,21 @@
-ghost use Rattle.std.specs.Prelude.{◌≡◌, ℕ, ◌+◌, ◌*◌, ◌^◌, ◌<◌, ◌≤◌, ◌++◌, length, take, drop, replicate};
-ghost use Rattle.numbers.specs.Numbers.{put_num};
-ghost use Rattle.format.specs.Layout.{block_bytes, inode_bytes, slots};
-ghost use Rattle.format.specs.Inode.{block_of_inode, start_of_inode, mode_of, size_of, slot_at, address_of, type_bits, type_rule, claims_blocks};
+ghost use Rattle.std.specs.Prelude.{◌≡◌, ℕ, ◌+◌, ◌*◌, ◌^◌, ◌<◌, ◌≤◌, ◌++◌, take, drop, replicate, [], ◌≢◌, ◌%◌, ◌-◌, length, slice_index_or};
+ghost use Rattle.format.specs.Layout.{block_bytes, inode_bytes, inodes_per_block};
+ghost use Rattle.format.specs.Inode.{block_of_inode, start_of_inode, type_bits};
 
-use crate::layout::{FIRST_LIST_BLOCK, INODE_BYTES, INODES_PER_BLOCK};
-use numbers::fields::{get16, get24, get32, put16, put24, put32};
+use crate::layout::{Block, FIRST_LIST_BLOCK, INODE_BYTES, INODES_PER_BLOCK};
+use crate::number::Number;
+use disk::disk::{Disk, get};
+use std::marker::Model;
 
-// Where the fields of an inode begin.
-pub const AT_MODE: usize = 0;
-
-pub const AT_NLINK: usize = 2;
-
-pub const AT_SIZE: usize = 8;
-
-pub const AT_SLOTS: usize = 12;
+// The top four bits of a mode.
+pub fn type_bits(mode: u32) -> u32
+    ensures { result ≡ type_bits mode }
+{
+    mode / 4096
+}
 
 // What an inode is, by the top four bits of its mode.
-#[derive(Clone, Copy)]
+#[derive(Clone, Copy, Debug, PartialEq, Eq, Hash)]
 pub enum InodeType {
     Unused,
     Regular,
@@ -25,20 +24,22 @@ pub enum InodeType {
     Unknown,
 }
 
-// The type that a mode gives.
-pub fn inode_type(mode: u16) -> InodeType
-    ensures { result ≡ type_rule (type_bits mode) }
-{
-    match mode / 4096 {
-        0 => InodeType::Unused,
-        8 => InodeType::Regular,
-        4 => InodeType::Directory,
-        1 | 2 | 6 => InodeType::Special,
-        _ => InodeType::Unknown,
-    }
-}
-
 impl InodeType {
+    ghost use Rattle.format.specs.Inode.{type_rule, claims_blocks};
+
+    // The type that a mode gives. No conversion, since any number would convert; unknown is a case and no error, since a check goes on and reports it.
+    pub fn of_mode(mode: u32) -> InodeType
+        ensures { result ≡ type_rule (type_bits mode) }
+    {
+        match type_bits(mode) {
+            0 => InodeType::Unused,
+            8 => InodeType::Regular,
+            4 => InodeType::Directory,
+            1 | 2 | 6 => InodeType::Special,
+            _ => InodeType::Unknown,
+        }
+    }
+
     // Only regular files and directories claim blocks.
     pub fn claims_blocks(self) -> bool
         ensures { result ≡ claims_blocks self }
@@ -50,89 +51,117 @@ impl InodeType {
     }
 }
 
-// The block of an inode.
-pub fn block_of(inode: u32) -> u32
-    requires numbered { 1 ≤ inode }
-    ensures { result ≡ block_of_inode inode }
-{
-    FIRST_LIST_BLOCK + (inode - 1) / INODES_PER_BLOCK
+// A part of an inode that is a number.
+#[derive(Clone, Copy, Debug, PartialEq, Eq, Hash)]
+pub enum Part {
+    Mode,
+    Nlink,
+    // the size of the file
+    Size,
+    // the address in a slot
+    Slot(u32),
 }
 
-// The byte of its block at which an inode begins.
-fn start_of(inode: u32) -> usize
-    requires numbered { 1 ≤ inode }
-    ensures { result ≡ start_of_inode inode }
-{
-    INODE_BYTES * ((inode - 1) % INODES_PER_BLOCK) as usize
+// A part of one inode.
+#[derive(Clone, Copy, Debug, PartialEq, Eq, Hash)]
+pub struct InodeField {
+    pub inode: Inode,
+    pub part: Part,
 }
 
-pub fn mode(block: &[u8], inode: u32) -> u16
-    requires sized { length block.now ≡ block_bytes }
-    requires numbered { 1 ≤ inode }
-    ensures { result ≡ mode_of inode block.now }
-{
-    get16(block, start_of(inode) + AT_MODE)
+impl Number for InodeField {
+    ghost use Rattle.format.specs.Fields.{IsInInode, at_in, width_in, within_inode, narrow_inode};
+
+    ghost IsThere = { IsInInode };
+
+    ghost at_of = { at_in };
+
+    ghost width_of = { width_in };
+
+    ghost within = { within_inode };
+
+    ghost narrow = { narrow_inode };
+
+    fn at(self) -> usize {
+        let start = self.inode.start();
+        match self.part {
+            Part::Mode => start,
+            Part::Nlink => start + 2,
+            Part::Size => start + 8,
+            Part::Slot(slot) => start + 12 + 3 * slot as usize,
+        }
+    }
+
+    fn width(self) -> usize {
+        match self.part {
+            Part::Mode | Part::Nlink => 2,
+            Part::Size => 4,
+            Part::Slot(_) => 3,
+        }
+    }
 }
 
-// The size of a file.
-pub fn file_size(block: &[u8], inode: u32) -> u32
-    requires sized { length block.now ≡ block_bytes }
-    requires numbered { 1 ≤ inode }
-    ensures { result ≡ size_of inode block.now }
-{
-    get32(block, start_of(inode) + AT_SIZE)
+// An inode, by its number; they are numbered from 1.
+#[derive(Clone, Copy, Debug, PartialEq, Eq, Hash)]
+pub struct Inode {
+    number: u32,
 }
 
-// The address in a slot.
-pub fn address(block: &[u8], inode: u32, slot: u32) -> u32
-    requires sized { length block.now ≡ block_bytes }
-    requires numbered { 1 ≤ inode }
-    requires within { slot < slots }
-    ensures { result ≡ address_of inode slot block.now }
-{
-    get24(block, start_of(inode) + AT_SLOTS + 3 * slot as usize)
+impl Model for Inode {
+    ghost Value = { ℕ };
+
+    ghost view = { λ i. i.number };
+
+    ghost invariant = { λ i. 1 ≤ i.number };
+
+    ghost inverse = { λ n. record { number = n } };
 }
 
-// Makes all bytes of an inode zero.
-pub fn blank(block: &mut [u8], inode: u32)
-    requires sized { length block.old ≡ block_bytes }
-    requires numbered { 1 ≤ inode }
-    ensures { block.new ≡ take (start_of_inode inode) block.old ++ (replicate inode_bytes 0 ++ drop (start_of_inode inode + inode_bytes) block.old) }
-{
-    let at = start_of(inode);
-    block[at..at + INODE_BYTES].fill(0);
-}
+impl Inode {
+    pub fn new(number: u32) -> Inode
+        requires { 1 ≤ number }
+        ensures { result ≡ number }
+    {
+        Inode { number }
+    }
 
-pub fn set_mode(block: &mut [u8], inode: u32, v: u16)
-    requires sized { length block.old ≡ block_bytes }
-    requires numbered { 1 ≤ inode }
-    ensures { block.new ≡ put_num 2 (start_of_inode inode) v block.old }
-{
-    put16(block, start_of(inode) + AT_MODE, v);
-}
+    // A part of the inode.
+    pub fn part(self, part: Part) -> InodeField
+        ensures { result ≡ record { inode = self; part = part } }
+    {
+        InodeField { inode: self, part }
+    }
 
-pub fn set_nlink(block: &mut [u8], inode: u32, v: u16)
-    requires sized { length block.old ≡ block_bytes }
-    requires numbered { 1 ≤ inode }
-    ensures { block.new ≡ put_num 2 (start_of_inode inode + 2) v block.old }
-{
-    put16(block, start_of(inode) + AT_NLINK, v);
-}
+    // The block of the inode.
+    pub fn block(self) -> u32
+        ensures { result ≡ block_of_inode self }
+    {
+        FIRST_LIST_BLOCK + (self.number - 1) / INODES_PER_BLOCK
+    }
 
-pub fn set_file_size(block: &mut [u8], inode: u32, v: u32)
-    requires sized { length block.old ≡ block_bytes }
-    requires numbered { 1 ≤ inode }
-    ensures { block.new ≡ put_num 4 (start_of_inode inode + 8) v block.old }
-{
-    put32(block, start_of(inode) + AT_SIZE, v);
-}
+    // The byte of its block at which the inode begins.
+    fn start(self) -> usize
+        ensures { result ≡ start_of_inode self }
+    {
+        INODE_BYTES * ((self.number - 1) % INODES_PER_BLOCK) as usize
+    }
 
-pub fn set_address(block: &mut [u8], inode: u32, slot: u32, v: u32)
-    requires sized { length block.old ≡ block_bytes }
-    requires numbered { 1 ≤ inode }
-    requires within { slot < slots }
-    requires small { v < 2 ^ 24 }
-    ensures { block.new ≡ put_num 3 (slot_at inode slot) v block.old }
-{
-    put24(block, start_of(inode) + AT_SLOTS + 3 * slot as usize, v);
+    // Makes all bytes of the inode zero.
+    pub fn blank(self, block: &mut Block)
+        ensures { block.new ≡ take (start_of_inode self) block.old ++ (replicate inode_bytes 0 ++ drop (start_of_inode self + inode_bytes) block.old) }
+    {
+        let at = self.start();
+        block[at..at + INODE_BYTES].fill(0);
+    }
+
+    // Turns to the block of the inode, on a way through the i-list: it is read at its first inode, and is there at the others.
+    pub fn turn_to<D: Disk>(self, d: &D, node: &mut Block)
+        requires there { block_of_inode self < length (D.Disk.medium d.now).sectors }
+        requires before { ((self - 1) % inodes_per_block ≢ 0) → node.old ≡ slice_index_or (D.Disk.medium d.now).sectors (block_of_inode self) [] }
+        ensures { node.new ≡ slice_index_or (D.Disk.medium d.now).sectors (block_of_inode self) [] }
+    {
+        if (self.number - 1) % INODES_PER_BLOCK == 0 {
+            get(d, self.block() as usize, node);
+        }
+    }
 }

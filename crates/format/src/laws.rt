@@ -1,9 +1,16 @@
-ghost use Rattle.format.specs.Laws.{SplitLaw, SplitExamples};
+ghost use Rattle.format.specs.Laws.{SplitLaw, SplitExamples, FieldsHaveTheirNames};
 
 // A position and its slot and indices determine each other; and the worked examples.
 pub fn positions_stand() -> u8
     ensures split { SplitLaw }
     ensures examples { SplitExamples }
+{
+    0
+}
+
+// A number read by its field is the one of that name.
+pub fn fields_stand() -> u8
+    ensures { FieldsHaveTheirNames }
 {
     0
 }

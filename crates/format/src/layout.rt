@@ -1,7 +1,10 @@
 // The numbers of the layout, each in one place.
+use disk::admit::{SECTOR, Sector};
 
-// The bytes of a block.
-pub const BLOCK_BYTES: usize = 512;
+// A block is one sector.
+pub const BLOCK_BYTES: usize = SECTOR;
+
+pub type Block = Sector;
 
 // The addresses in a table.
 pub const TABLE_WIDTH: u32 = 128;

@@ -2,9 +2,11 @@
 #![tactic(auto)]
 
 pub mod geometry;
-pub mod ilist;
 pub mod inode;
 pub mod laws;
 pub mod layout;
+pub mod number;
+pub mod on_disk;
 pub mod position;
 pub mod superblock;
+pub mod table;

@@ -1,188 +1,114 @@
-ghost use Rattle.std.specs.Prelude.{◌≡◌, ℕ, ◌+◌, ◌*◌, ◌<◌, ◌≤◌, length, slice_set};
-ghost use Rattle.numbers.specs.Numbers.{num, put_num};
-ghost use Rattle.format.specs.Layout.{block_bytes, list_room, inode_room};
-ghost use Rattle.format.specs.Superblock.{at_nfree, free_at, at_ninode, inode_at, at_flock, at_tfree, at_tinode};
-ghost use Rattle.format.specs.Superblock.{isize_of, fsize_of, nfree_of, free_of, ninode_of, inode_of, flock_of, tfree_of, tinode_of, magic_of, type_of, type_fits};
+ghost use Rattle.std.specs.Prelude.{◌≡◌, ◌==◌, Some, None, if◌then◌else◌, slice_set};
+ghost use Rattle.format.specs.Superblock.{at_flock, flock_of, magic_of, type_of, magic, type_fits};
 
-use numbers::fields::{get16, get32, put16, put32};
-
-// Where the fields of the superblock begin.
-pub const AT_ISIZE: usize = 0;
-
-pub const AT_FSIZE: usize = 2;
-
-pub const AT_NFREE: usize = 6;
-
-pub const AT_FREE: usize = 8;
-
-pub const AT_NINODE: usize = 208;
-
-pub const AT_INODE: usize = 210;
-
-pub const AT_FLOCK: usize = 410;
-
-pub const AT_TFREE: usize = 426;
-
-pub const AT_TINODE: usize = 430;
-
-pub const AT_MAGIC: usize = 504;
-
-pub const AT_TYPE: usize = 508;
+use crate::layout::Block;
+use crate::number::Number;
 
 // The magic number, after which the type is read, and the type of 512-byte blocks.
 pub const MAGIC: u32 = 0xFD187E20;
 
 pub const TYPE: u32 = 1;
 
-// The first data block, which ends the i-list.
-pub fn isize(b: &[u8]) -> u16
-    requires { length b.now ≡ block_bytes }
-    ensures { result ≡ isize_of b.now }
-{
-    get16(b, AT_ISIZE)
+// Where the entries of the free list begin, and where its lock stands.
+pub const AT_FREE: usize = 8;
+
+pub const AT_FLOCK: usize = 410;
+
+// The lock's two values.
+pub const OPEN: u8 = 0;
+
+pub const LOCKED: u8 = 1;
+
+// A number in the superblock.
+#[derive(Clone, Copy, Debug, PartialEq, Eq, Hash)]
+pub enum Field {
+    // the first data block, which ends the i-list
+    Isize,
+    // the end of the data blocks
+    Fsize,
+    // how many entries of the free list the superblock holds
+    Nfree,
+    // one of these entries
+    Free(usize),
+    // how many numbers of unused inodes the superblock holds
+    Ninode,
+    // one of these numbers
+    InodeNumber(usize),
+    // how many blocks are listed in all
+    Tfree,
+    // how many inodes are unused in all
+    Tinode,
+    // the magic number, if it is one
+    Magic,
+    // the type, which is read only under the magic number
+    VolumeType,
 }
 
-// The end of the data blocks.
-pub fn fsize(b: &[u8]) -> u32
-    requires { length b.now ≡ block_bytes }
-    ensures { result ≡ fsize_of b.now }
-{
-    get32(b, AT_FSIZE)
-}
+impl Number for Field {
+    ghost use Rattle.format.specs.Fields.{IsThere, at_of, width_of, within, narrow};
 
-// How many entries of the free list the superblock holds.
-pub fn nfree(b: &[u8]) -> u16
-    requires { length b.now ≡ block_bytes }
-    ensures { result ≡ nfree_of b.now }
-{
-    get16(b, AT_NFREE)
-}
+    ghost IsThere = { IsThere };
 
-// Entry k of the free list.
-pub fn free_entry(b: &[u8], k: usize) -> u32
-    requires sized { length b.now ≡ block_bytes }
-    requires within { k < list_room }
-    ensures { result ≡ free_of k b.now }
-{
-    get32(b, AT_FREE + 4 * k)
-}
+    ghost at_of = { at_of };
 
-// How many blocks are listed in all.
-pub fn tfree(b: &[u8]) -> u32
-    requires { length b.now ≡ block_bytes }
-    ensures { result ≡ tfree_of b.now }
-{
-    get32(b, AT_TFREE)
-}
+    ghost width_of = { width_of };
 
-// How many numbers of unused inodes the superblock holds.
-pub fn ninode(b: &[u8]) -> u16
-    requires { length b.now ≡ block_bytes }
-    ensures { result ≡ ninode_of b.now }
-{
-    get16(b, AT_NINODE)
-}
+    ghost within = { within };
 
-// Number k of these.
-pub fn inode_number(b: &[u8], k: usize) -> u16
-    requires sized { length b.now ≡ block_bytes }
-    requires within { k < inode_room }
-    ensures { result ≡ inode_of k b.now }
-{
-    get16(b, AT_INODE + 2 * k)
-}
+    ghost narrow = { narrow };
 
-// How many inodes are unused in all.
-pub fn tinode(b: &[u8]) -> u16
-    requires { length b.now ≡ block_bytes }
-    ensures { result ≡ tinode_of b.now }
-{
-    get16(b, AT_TINODE)
-}
+    fn at(self) -> usize {
+        match self {
+            Field::Isize => 0,
+            Field::Fsize => 2,
+            Field::Nfree => 6,
+            Field::Free(k) => AT_FREE + 4 * k,
+            Field::Ninode => 208,
+            Field::InodeNumber(k) => 210 + 2 * k,
+            Field::Tfree => 426,
+            Field::Tinode => 430,
+            Field::Magic => 504,
+            Field::VolumeType => 508,
+        }
+    }
 
-// The lock of the free list.
-pub fn flock(b: &[u8]) -> u8
-    requires { length b.now ≡ block_bytes }
-    ensures { result ≡ flock_of b.now }
-{
-    b[AT_FLOCK]
-}
-
-// The magic number, if it is one.
-fn magic(b: &[u8]) -> u32
-    requires { length b.now ≡ block_bytes }
-    ensures { result ≡ magic_of b.now }
-{
-    get32(b, AT_MAGIC)
-}
-
-// The type, which is read only under the magic number.
-fn volume_type(b: &[u8]) -> u32
-    requires { length b.now ≡ block_bytes }
-    ensures { result ≡ type_of b.now }
-{
-    get32(b, AT_TYPE)
-}
-
-// Under the magic number the type must be that of 512-byte blocks.
-pub fn type_fits(b: &[u8]) -> bool
-    requires { length b.now ≡ block_bytes }
-    ensures { result ≡ type_fits b.now }
-{
-    if magic(b) == MAGIC {
-        volume_type(b) == TYPE
-    } else {
-        true
+    fn width(self) -> usize {
+        match self {
+            Field::Isize | Field::Nfree | Field::Ninode | Field::InodeNumber(_) | Field::Tinode => {
+                2
+            }
+            Field::Fsize | Field::Free(_) | Field::Tfree | Field::Magic | Field::VolumeType => 4,
+        }
     }
 }
 
-pub fn set_nfree(b: &mut [u8], v: u16)
-    requires { length b.old ≡ block_bytes }
-    ensures { b.new ≡ put_num 2 at_nfree v b.old }
+// The type, where the magic number stands before it.
+fn volume_type(block: &Block) -> Option<u32>
+    ensures { result ≡ (if magic_of block.now == magic then Some (type_of block.now) else None) }
 {
-    put16(b, AT_NFREE, v);
+    if Field::Magic.get(block) == MAGIC {
+        Some(Field::VolumeType.get(block))
+    } else {
+        None
+    }
 }
 
-pub fn set_free_entry(b: &mut [u8], k: usize, v: u32)
-    requires sized { length b.old ≡ block_bytes }
-    requires within { k < list_room }
-    ensures { b.new ≡ put_num 4 (free_at k) v b.old }
+// Under the magic number the type must be that of 512-byte blocks.
+pub fn type_fits(block: &Block) -> bool
+    ensures { result ≡ type_fits block.now }
 {
-    put32(b, AT_FREE + 4 * k, v);
+    volume_type(block).is_none_or(|t| t == TYPE)
 }
 
-pub fn set_tfree(b: &mut [u8], v: u32)
-    requires { length b.old ≡ block_bytes }
-    ensures { b.new ≡ put_num 4 at_tfree v b.old }
+// The lock of the free list.
+pub fn flock(block: &Block) -> u8
+    ensures { result ≡ flock_of block.now }
 {
-    put32(b, AT_TFREE, v);
+    block[AT_FLOCK]
 }
 
-pub fn set_ninode(b: &mut [u8], v: u16)
-    requires { length b.old ≡ block_bytes }
-    ensures { b.new ≡ put_num 2 at_ninode v b.old }
+pub fn set_flock(block: &mut Block, v: u8)
+    ensures { block.new ≡ slice_set block.old at_flock v }
 {
-    put16(b, AT_NINODE, v);
-}
-
-pub fn set_inode_number(b: &mut [u8], k: usize, v: u16)
-    requires sized { length b.old ≡ block_bytes }
-    requires within { k < inode_room }
-    ensures { b.new ≡ put_num 2 (inode_at k) v b.old }
-{
-    put16(b, AT_INODE + 2 * k, v);
-}
-
-pub fn set_tinode(b: &mut [u8], v: u16)
-    requires { length b.old ≡ block_bytes }
-    ensures { b.new ≡ put_num 2 at_tinode v b.old }
-{
-    put16(b, AT_TINODE, v);
-}
-
-pub fn set_flock(b: &mut [u8], v: u8)
-    requires { length b.old ≡ block_bytes }
-    ensures { b.new ≡ slice_set b.old at_flock v }
-{
-    b[AT_FLOCK] = v;
+    block[AT_FLOCK] = v;
 }

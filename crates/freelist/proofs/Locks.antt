@@ -1,6 +1,6 @@
 -- The lock byte stands apart from the list: taking and giving under the lock is taking and giving.
 use Rattle.std.proofs.Common.{◌≡◌, ℕ, zero, suc, ◌+◌, ◌-◌, ◌<◌, ◌≤◌, min, Bool, true, false, cond, eqb, ltb, List, [], ◌++◌, length, get_or, take, drop, set, Ok, Err, Result, sym, refl, ap, ◌∙◌, inl, inr, ⊎_elim, arith, length-set, length-take, set-set}
-use lib.Seq.{set-get_or, take-set-le, drop-set-add}
+use Rattle.std.proofs.lemmas.List.{set-get_or, take-set-le, drop-set-add}
 use Rattle.std.proofs.lemmas.Bool.{cases_eq, cases_Bool, ltb-false}
 use Rattle.std.proofs.lemmas.List.{set-append_right}
 use Rattle.fault.specs.declared.fault.ListFault.{ListFault}

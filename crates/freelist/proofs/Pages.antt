@@ -1,6 +1,6 @@
 -- The free list over pages is a stack.
 use Rattle.std.proofs.Common.{◌≡◌, ℕ, zero, suc, ◌+◌, ◌-◌, ◌<◌, ◌≤◌, Bool, true, false, cond, eqb, ltb, leb, List, [], ◌∷◌, length, get_or, set, sym, refl, ap, ◌∙◌, ⊎_elim, add-one, arith, length-set, get_or-set_other, get_or-set_same, ltb-false, le-ltb, ne_eqb, eqb-true}
-use borrow.Author.Tests.{lt-leb, eqb-false}
+use Rattle.std.proofs.lemmas.Bool.{lt-leb, eqb-false}
 use Rattle.std.proofs.lemmas.Bool.{cases_Bool}
 use Rattle.fault.specs.declared.fault.ListFault.TheVariants.{Empty}
 use Rattle.disk.specs.Medium.{Sectors, Write, after}

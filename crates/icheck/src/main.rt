@@ -4,8 +4,7 @@
 use disk::admit::SECTOR;
 use disk::disk::Disk;
 use fault::fault::Fault;
-use fault::finding::{Finding, Kind};
-use fault::place::Place;
+use fault::finding::Finding;
 use images::plain::Plain;
 use std::alloc::{AllocError, Global};
 use std::io;
@@ -30,48 +29,34 @@ fn verdict_on<D: Disk>(d: &D, findings: &mut [Finding]) -> Result<Verdict, Fault
     check(&volume, d, &mut scratch, findings)
 }
 
-// A line for each finding that was kept in the list.
-fn print_findings(rt: &HostRuntime, kept: &[Finding]) -> io::Result<()> {
-    for f in kept {
-        let (kind, address, inode, place) = f.numbers();
-        println!(rt; "{kind} {address} {inode} {place}")?;
+// The verdict, and before it the findings that were kept in the list.
+fn print_verdict(rt: &impl Print, v: Verdict, findings: &[Finding]) -> io::Result<()> {
+    for finding in findings.iter().take(v.findings as usize) {
+        println!(rt; "{finding}")?;
     }
-    Ok(())
-}
-
-fn print_verdict(rt: &HostRuntime, v: Verdict) -> io::Result<()> {
-    println!(rt; "status 0x{:02X}", v.status)?;
-    println!(rt; "used {}", v.used)?;
-    println!(rt; "free {}", v.free)?;
-    println!(rt; "missing {}", v.missing)?;
+    println!(rt; "status {}", v.status)?;
+    println!(rt; "used {}", v.census.used)?;
+    println!(rt; "free {}", v.census.free)?;
+    println!(rt; "missing {}", v.census.missing)?;
     println!(rt; "findings {}", v.findings)
 }
 
-fn report_on(rt: &HostRuntime, image: &mut [u8]) -> io::Result<()> {
-    let none = Finding {
-        kind: Kind::BadAddress,
-        address: 0,
-        place: Place::Nowhere,
-    };
-    let mut findings = [none; MOST_FINDINGS];
+fn report_on(rt: &impl Print, image: &mut [u8]) -> io::Result<()> {
+    let mut findings = [Finding::BLANK; MOST_FINDINGS];
     match verdict_on(&Plain::new(image), &mut findings) {
-        Ok(v) => {
-            let kept = MOST_FINDINGS.min(v.findings as usize);
-            print_findings(rt, &findings[0..kept])?;
-            print_verdict(rt, v)
-        }
-        Err(f) => println!(rt; "refused {}", f.refusal.number()),
+        Ok(v) => print_verdict(rt, v, &findings),
+        Err(f) => println!(rt; "refused {}", u8::from(f.refusal)),
     }
 }
 
-fn icheck(rt: &HostRuntime) -> anyhow::Result<()> {
+fn icheck(rt: &(impl Input + Print + AllocGlobal)) -> anyhow::Result<()> {
     let mut image = Vec::new(rt.alloc());
-    rt.stdin().read_to_end(&mut image)?;
+    rt.reader().read_to_end(&mut image)?;
     if image.len() > MOST_SECTORS * SECTOR {
         println!(rt; "too long")?;
-        return Ok(());
+    } else {
+        report_on(rt, image.as_mut_slice())?;
     }
-    report_on(rt, image.as_mut_slice())?;
     Ok(())
 }
 

@@ -1,12 +1,13 @@
 -- Bytes as sectors.
-use Rattle.std.proofs.Common.{◌≡◌, ℕ, zero, suc, ◌+◌, ◌*◌, ◌/◌, ◌<◌, ◌≤◌, true, cond, List, [], ◌∷◌, ◌++◌, length, get_or, take, drop, set, sym, refl, ap, ◌∙◌, le_of_suc-le-suc, add_comm, mul-suc, arith, length-append, length-drop, length-take, length-take-le, take-take, drop-drop, take_at, drop_at}
-use lib.Seq.{take-append-le, drop-append-le}
-use Rattle.std.proofs.lemmas.List.{drop-take}
+use Rattle.std.proofs.Common.{◌≡◌, ℕ, zero, suc, ◌+◌, ◌*◌, ◌/◌, ◌<◌, ◌≤◌, true, cond, List, [], ◌∷◌, ◌++◌, map, length, get_or, take, drop, set, sym, refl, ap, ◌∙◌, le_of_suc-le-suc, add_comm, mul-suc, arith, length-append, length-drop, length-take, length-take-le, take-take, drop-drop, take_at, drop_at}
+use Rattle.std.proofs.lemmas.List.{take-append-le, drop-append-le}
+use Rattle.std.proofs.lemmas.List.{drop-take, length-map, get_or-map, map-set}
 use Rattle.std.proofs.lemmas.Slice.{drop-put_mid}
 use borrow.Rule.Slice.PartMut.{put_mid}
 use Rattle.disk.specs.Medium.{Medium, Sectors, Sized, sector_bytes, endless, ran}
 use Rattle.disk.specs.Disks.{serves}
 use Rattle.images.specs.Images.{sectors_of, image, tail}
+use Rattle.images.specs.Orders.{OrderLaws}
 use Rattle.disk.proofs.Served.{served}
 use Rattle.disk.proofs.Writes.{ran_one}
 
@@ -57,26 +58,46 @@ set_sectors (suc n) (suc s) bs b h k e =
 length_put : (s : ℕ) (bs b : List ℕ) → sector_bytes * s + sector_bytes ≤ length bs → length b ≡ sector_bytes → length (put_mid (sector_bytes * s) sector_bytes bs b) ≡ length bs
 length_put s bs b h e = simp (length-append, length-take, length-drop) (omega arith)
 
--- A call on sector s of the image of bs, with its buffer.
-module _ (bs buf out : List ℕ) (s : ℕ) (e : length buf ≡ sector_bytes) (h : s < length bs / sector_bytes) where
-  here : serves (length buf) s (length (image bs).sectors) ≡ true
-  here = served (length buf) s (length (image bs).sectors) e (rw length_sectors h)
+-- A call on sector s of an image of bs in an order f, with its buffer.
+module _ (f : List ℕ → List ℕ) (M : List ℕ → Medium) (o : OrderLaws f M) (bs : List ℕ) where
+  pub length_ordered : length (M bs).sectors ≡ length bs / sector_bytes
+  length_ordered = rw (o.medium bs) (length-map (image bs).sectors f ∙ length_sectors (length bs / sector_bytes) bs)
 
-  pub read_image : out ≡ take sector_bytes (drop (sector_bytes * s) bs) → out ≡ cond (serves (length buf) s (length (image bs).sectors)) (get_or (image bs).sectors s []) buf
-  read_image o = rw here (o ∙ sym (getD_sectors (length bs / sector_bytes) s bs h))
+  pub sized_ordered : Sized (M bs).sectors
+  sized_ordered = rw (o.medium bs) each
+    where
+      each : Sized (map f (image bs).sectors)
+      each k l =
+          let i : k < length (image bs).sectors = rw (length-map (image bs).sectors f) at l in
+          ap length (get_or-map f (image bs).sectors k [] [] i) ∙ o.len (get_or (image bs).sectors k []) ∙ sized_sectors (length bs / sector_bytes) bs (omega arith) k i
 
-  pub write_image : (k : ℕ) → k ≡ sector_bytes → out ≡ buf → image (put_mid (sector_bytes * s) k bs out) ≡ cond (serves (length buf) s (length (image bs).sectors)) (ran ((s, buf) ∷ []) (image bs)) (image bs)
-  write_image k q o =
-      let l : sector_bytes * s + sector_bytes ≤ length bs = omega arith in
-      let m : sector_bytes * (length bs / sector_bytes) ≤ length bs = omega arith in
-      let w : sectors_of (length (put_mid (sector_bytes * s) sector_bytes bs buf) / sector_bytes) (put_mid (sector_bytes * s) sector_bytes bs buf) ≡ set (sectors_of (length bs / sector_bytes) bs) s buf
-      = rw (length_put s bs buf l e) (set_sectors (length bs / sector_bytes) s bs buf h m e) in
-      let z : ◌≡◌ {A = Medium} (image (put_mid (sector_bytes * s) sector_bytes bs buf)) (record { sectors = set (image bs).sectors s buf; power = endless })
-      = ap (λ (T : Sectors). record { sectors = T; power = endless }) w in
-      rw (here, q, o) (z ∙ sym (ran_one s buf (image bs)))
+  module _ (buf : List ℕ) (s : ℕ) (e : length buf ≡ sector_bytes) (h : s < length bs / sector_bytes) where
+    here : serves (length buf) s (length (M bs).sectors) ≡ true
+    here = served (length buf) s (length (M bs).sectors) e (rw length_ordered h)
 
-  pub write_tail : (k : ℕ) → k ≡ sector_bytes → out ≡ buf → tail (put_mid (sector_bytes * s) k bs out) ≡ tail bs
-  write_tail k q o =
-      let l : sector_bytes * s + sector_bytes ≤ length bs = omega arith in
-      let m : sector_bytes * s + sector_bytes ≤ sector_bytes * (length bs / sector_bytes) = omega arith in
-      rw (q, o, length_put s bs buf l e) (drop-put_mid (sector_bytes * s) sector_bytes bs buf (sector_bytes * (length bs / sector_bytes)) m (omega arith) e)
+    pub read_ordered : (out : List ℕ) → out ≡ f (get_or (image bs).sectors s []) → out ≡ cond (serves (length buf) s (length (M bs).sectors)) (get_or (M bs).sectors s []) buf
+    read_ordered out q =
+        let i : s < length (image bs).sectors = rw length_sectors h in
+        rw here (q ∙ sym (get_or-map f (image bs).sectors s [] [] i) ∙ ap (λ (m : Medium). get_or m.sectors s []) (sym (o.medium bs)))
+
+    sectors_put : (image (put_mid (sector_bytes * s) sector_bytes bs (f buf))).sectors ≡ set (image bs).sectors s (f buf)
+    sectors_put =
+        let l : sector_bytes * s + sector_bytes ≤ length bs = omega arith in
+        let m : sector_bytes * (length bs / sector_bytes) ≤ length bs = omega arith in
+        let t : length (f buf) ≡ sector_bytes = o.len buf ∙ e in
+        rw (length_put s bs (f buf) l t) (set_sectors (length bs / sector_bytes) s bs (f buf) h m t)
+
+    pub write_ordered : M (put_mid (sector_bytes * s) sector_bytes bs (f buf)) ≡ cond (serves (length buf) s (length (M bs).sectors)) (ran ((s, buf) ∷ []) (M bs)) (M bs)
+    write_ordered =
+        let a : map f (image (put_mid (sector_bytes * s) sector_bytes bs (f buf))).sectors ≡ set (map f (image bs).sectors) s buf
+        = ap (map f) sectors_put ∙ map-set f (image bs).sectors s (f buf) ∙ ap (set (map f (image bs).sectors) s) (o.twice buf) in
+        let z : ◌≡◌ {A = Medium} (record { sectors = map f (image (put_mid (sector_bytes * s) sector_bytes bs (f buf))).sectors; power = endless }) (record { sectors = set (map f (image bs).sectors) s buf; power = endless })
+        = ap (λ (T : Sectors). record { sectors = T; power = endless }) a in
+        rw here (o.medium (put_mid (sector_bytes * s) sector_bytes bs (f buf)) ∙ z ∙ sym (ap (ran ((s, buf) ∷ [])) (o.medium bs) ∙ ran_one s buf _))
+
+    pub write_tail : tail (put_mid (sector_bytes * s) sector_bytes bs (f buf)) ≡ tail bs
+    write_tail =
+        let l : sector_bytes * s + sector_bytes ≤ length bs = omega arith in
+        let m : sector_bytes * s + sector_bytes ≤ sector_bytes * (length bs / sector_bytes) = omega arith in
+        let t : length (f buf) ≡ sector_bytes = o.len buf ∙ e in
+        rw (length_put s bs (f buf) l t) (drop-put_mid (sector_bytes * s) sector_bytes bs (f buf) (sector_bytes * (length bs / sector_bytes)) m (omega arith) t)

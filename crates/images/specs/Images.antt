@@ -1,11 +1,11 @@
 -- The meaning of the plain image and of the swapped dump.
-use Rattle.std.specs.Prelude.{◌≡◌, ℕ, zero, suc, ◌*◌, ◌/◌, List, [], ◌∷◌, map, length, take, drop}
+use Rattle.std.specs.Prelude.{◌≡◌, ℕ, ◌*◌, ◌/◌, List, [], ◌∷◌, map, length, drop}
+use Rattle.std.specs.Simd.{first_chunks}
 use Rattle.disk.specs.Medium.{Sectors, Medium, endless, sector_bytes}
 
 -- a row of bytes as n sectors
 abbrev pub sectors_of : ℕ → List ℕ → Sectors
-sectors_of zero bs = []
-sectors_of (suc n) bs = take sector_bytes bs ∷ sectors_of n (drop sector_bytes bs)
+sectors_of = first_chunks sector_bytes
 
 -- the plain image: all whole sectors, endless power
 abbrev pub image : List ℕ → Medium

@@ -1,6 +1,6 @@
 -- The laws of numbers in a row of bytes, over any width. The range that changes comes first in Apart.
-use Rattle.std.proofs.Common.{◌≡◌, ℕ, zero, suc, ◌+◌, ◌*◌, ◌/◌, ◌%◌, ◌<◌, ◌≤◌, true, ◌||◌, leb, ◌≢◌, List, [], ◌∷◌, ◌++◌, length, get_or, take, drop, set, replicate, sym, refl, ap, ◌∙◌, inl, inr, ⊎_elim, mul-le-mul_left, mul-suc, arith, length-set, get_or-drop, get_or-set_other, get_or-take, get_or-set_same, set-set}
-use lib.Seq.{set_comm, set-get_or}
+use Rattle.std.proofs.Common.{◌≡◌, ℕ, zero, suc, ◌+◌, ◌*◌, ◌/◌, ◌%◌, ◌^◌, ◌-◌, ◌<◌, ◌≤◌, true, ◌||◌, leb, ◌≢◌, List, [], ◌∷◌, ◌++◌, length, get_or, take, drop, set, replicate, sym, refl, ap, ◌∙◌, inl, inr, ⊎_elim, mul-le-mul_left, mul-suc, add-one, sub-one, arith, length-set, get_or-drop, get_or-set_other, get_or-take, get_or-set_same, set-set}
+use Rattle.std.proofs.lemmas.List.{set_comm, set-get_or}
 use Rattle.std.proofs.lemmas.Bool.{leb-true, or_cases, cases_lt, cases_eq}
 use Rattle.std.proofs.lemmas.List.{ext_get_or, get_or_append_left, get_or-append-add}
 use Rattle.numbers.specs.Numbers.{num, put_num, nums}
@@ -68,6 +68,35 @@ put_set (suc (suc n)) o v k w x h =
     (put_set (suc n) o (v / 256) k w x (⊎_elim (λ (l : o + suc (suc n) ≤ k). inl (omega arith)) (λ (l : k + 1 ≤ o). inr l) h))
     ∙ set_comm (put_num (suc n) o (v / 256) x) k (o + suc n) w (v % 256)
     (⊎_elim (λ (l : o + suc (suc n) ≤ k). omega arith) (λ (l : k + 1 ≤ o). omega arith) h)
+
+-- one byte more of a number, and a bound on both
+pub num_more : (n o : ℕ) (x : List ℕ) → num (n + 1) o x ≡ 256 * num n o x + get_or x (o + n) 0
+unfolding num
+num_more zero o x = let a : o + 0 ≡ o = omega arith in let e = ap (λ (k : ℕ). get_or x k 0) a in omega arith
+num_more (suc n) o x = rw add-one (omega arith)
+
+pub more_fits : (i v b : ℕ) → i < 4 → v < 256 ^ i → b < 256 → (256 * v + b < 256 ^ (i + 1)) × (256 * v + b < 2 ^ 32)
+more_fits zero v b l h k = (omega arith, omega arith)
+more_fits (suc zero) v b l h k = (omega arith, omega arith)
+more_fits (suc (suc zero)) v b l h k = (omega arith, omega arith)
+more_fits (suc (suc (suc zero))) v b l h k = (omega arith, omega arith)
+more_fits (suc (suc (suc (suc i)))) v b l h k = absurd (omega arith)
+
+-- the last byte of a number, put before the rest of it
+pub put_last : (i o v : ℕ) (x : List ℕ) → 0 < i → i ≤ 4 → v < 256 ^ i → (put_num (i - 1) o (v / 256) (set x (o + (i - 1)) (v % 256)) ≡ put_num i o v x) × (v / 256 < 256 ^ (i - 1))
+unfolding put_num
+put_last zero o v x z l h = absurd (omega arith)
+put_last (suc zero) o v x z l h =
+    let a : o + 0 ≡ o = omega arith in
+    let b : v % 256 ≡ v = omega arith in
+    (rw (a, b), omega arith)
+put_last (suc (suc n)) o v x z l h = (rw sub-one (put_set (suc n) o (v / 256) (o + suc n) (v % 256) x (inl (omega arith))), small n l h)
+  where
+    small : (n : ℕ) → suc (suc n) ≤ 4 → v < 256 ^ suc (suc n) → v / 256 < 256 ^ (suc (suc n) - 1)
+    small zero l h = omega arith
+    small (suc zero) l h = omega arith
+    small (suc (suc zero)) l h = omega arith
+    small (suc (suc (suc n))) l h = absurd (omega arith)
 
 -- of two numbers put at one place the last stays
 pub put_put : (n o v u : ℕ) (x : List ℕ) → put_num n o v (put_num n o u x) ≡ put_num n o v x

@@ -1,8 +1,9 @@
 -- Where a forwarder keeps sectors, and what one call on it does.
-use Rattle.std.proofs.Common.{◌≡◌, ℕ, zero, suc, ◌+◌, ◌-◌, ◌<◌, ◌≤◌, Bool, true, false, cond, ltb, leb, ◌≢◌, ◌⊎◌, List, [], ◌∷◌, length, get_or, drop, set, sym, refl, ap, ◌∙◌, inl, inr, ⊎_elim, arith, length-set, get_or-set_other, get_or-set_same, ltb-true, le-ltb, lt-ltb, eq-eqb, ne_eqb, leb-true}
-use borrow.Author.Tests.{clash}
+use Rattle.std.proofs.Common.{◌≡◌, ℕ, zero, suc, ◌+◌, ◌-◌, ◌<◌, ◌≤◌, Bool, true, false, not, ◌==◌, cond, ltb, leb, ◌≢◌, ◌⊎◌, Option, Some, None, List, [], ◌∷◌, length, get_or, set, sym, refl, ap, ◌∙◌, inl, inr, ⊎_elim, arith, length-set, get_or-set_other, get_or-set_same, ltb-true, le-ltb, lt-ltb, eq-eqb, ne_eqb}
+use Rattle.std.specs.Option.{MatchOption}
+use Rattle.std.specs.List.{list_any, AllWithin, HoldsAt}
 use Rattle.std.proofs.lemmas.Bool.{cases_eq, cases_Bool}
-use Rattle.std.proofs.lemmas.List.{ext_get_or, drop_more, drop_all}
+use Rattle.std.proofs.lemmas.List.{ext_get_or}
 use Rattle.disk.specs.Disks.{serves, answer}
 use Rattle.disk.specs.Medium.{Medium, Sectors, Sized, Power, endless, left, sector_bytes, ran}
 use Rattle.disk.proofs.Writes.{ran_one, written, spend}
@@ -124,34 +125,38 @@ module _ (ws : List ℕ) (m : Medium) (len s h : ℕ) (e : len ≡ sector_bytes)
       rw (served len h (length m.sectors) e below, served len s (length (forwarded ws m.sectors)) e here)
       (ap (λ (k : ℕ). forward ws (ran ((k, b) ∷ []) m)) at ∙ forward_ran ws m s b l)
 
--- the search for a worn number
-pub home_here : (ws : List ℕ) (n s j : ℕ) → j < length ws → get_or ws j 0 ≡ s → home (drop j ws) (n + j) s ≡ n + j
+-- the first entry that names s
+pub home_at : (ws : List ℕ) (n s j : ℕ) → j < length ws → get_or ws j 0 ≡ s → ((k : ℕ) → k < j → get_or ws k 0 ≢ s) → home ws n s ≡ n + j
 unfolding home
-home_here ws n s j l e = rw (drop_more ws j 0 l, eq-eqb (get_or ws j 0) s e)
+home_at [] n s j l e h = absurd (omega arith)
+home_at (w ∷ ws) n s zero l e h = rw (eq-eqb w s e) (omega arith)
+home_at (w ∷ ws) n s (suc j) l e h = rw (ne_eqb w s (h 0 (omega arith))) (home_at ws (suc n) s j (omega arith) e (λ k m. h (suc k) (omega arith)) ∙ omega arith)
 
-pub home_skip : (ws : List ℕ) (n s j : ℕ) → j < length ws → (get_or ws j 0 ≡ s → ⊥) → home (drop j ws) (n + j) s ≡ home (drop (j + 1) ws) (n + (j + 1)) s
+home_others : (ws : List ℕ) (n s : ℕ) → ((j : ℕ) → j < length ws → get_or ws j 0 ≡ s → ⊥) → home ws n s ≡ s
 unfolding home
-home_skip ws n s j l e = let z : n + (j + 1) ≡ suc (n + j) = omega arith in rw (drop_more ws j 0 l, ne_eqb (get_or ws j 0) s e, z)
+home_others [] n s h = refl
+home_others (w ∷ ws) n s h = rw (ne_eqb w s (h 0 (omega arith))) (home_others ws (suc n) s (λ j l. h (suc j) (omega arith)))
 
-pub home_end : (ws : List ℕ) (n s j : ℕ) → length ws ≤ j → home (drop j ws) n s ≡ s
-unfolding home
-home_end ws n s j l = rw (drop_all j ws l)
+pub home-position : (ws : List ℕ) (n s : ℕ) (r : Option ℕ) (out : ℕ)
+    → MatchOption r (AllWithin (λ w. w ≢ s) ws 0 (length ws)) (λ i. (i < length ws) × HoldsAt (λ w. w ≡ s) ws i × AllWithin (λ w. w ≢ s) ws 0 i)
+    → MatchOption r (out ≡ s) (λ j. out ≡ n + j) → out ≡ home ws n s
+home-position ws n s None out h o = o ∙ sym (home_others ws n s (λ j l. h j 0 (omega arith) l))
+home-position ws n s (Some i) out h o = o ∙ sym (home_at ws n s i h.0 (h.1 0) (λ k m. h.2 k 0 (omega arith) m))
 
-pub new_here : (w : ℕ) (ws : List ℕ) (j : ℕ) → j < length ws → w ≡ get_or ws j 0 → is_new w (drop j ws) ≡ false
-new_here w ws j l e = rw (drop_more ws j 0 l, eq-eqb w (get_or ws j 0) e)
-
-pub new_skip : (w : ℕ) (ws : List ℕ) (j : ℕ) → j < length ws → (w ≡ get_or ws j 0 → ⊥) → is_new w (drop j ws) ≡ is_new w (drop (j + 1) ws)
-new_skip w ws j l e = rw (drop_more ws j 0 l, ne_eqb w (get_or ws j 0) e)
-
-pub new_end : (w : ℕ) (ws : List ℕ) (j : ℕ) → length ws ≤ j → is_new w (drop j ws) ≡ true
-new_end w ws j l = rw (drop_all j ws l)
+pub is_new-contains : (w : ℕ) (ws : List ℕ) → is_new w ws ≡ not (list_any (λ x. x == w) ws)
+is_new-contains w [] = refl
+is_new-contains w (x ∷ ws) =
+    ⊎_elim
+    (λ (e : w ≡ x). rw (eq-eqb w x e, eq-eqb x w (sym e)))
+    (λ (e : w ≡ x → ⊥). rw (ne_eqb w x e, ne_eqb x w (λ d. e (sym d))) (is_new-contains w ws))
+    (cases_eq w x)
 
 -- lawful numbers: entry j is kept in n + j
 not_yet : (w : ℕ) (ws : List ℕ) (j : ℕ) → is_new w ws ≡ true → j < length ws → get_or ws j 0 ≢ w
 not_yet w [] j h l e = omega arith
 not_yet w (x ∷ ws) j h l e =
     ⊎_elim
-    (λ (y : w ≡ x). let f : false ≡ true = rw (eq-eqb w x y) at h in let z : ◌≡◌ {A = ℕ} 0 1 = cc in omega arith)
+    (λ (y : w ≡ x). let f : false ≡ true = rw (eq-eqb w x y) at h in cc)
     (λ (y : w ≡ x → ⊥). later j l y e (λ i m. not_yet w ws i (rw (ne_eqb w x y) at h) m))
     (cases_eq w x)
   where
@@ -168,9 +173,9 @@ home_entry (w ∷ ws) n N j h l =
     let h1 = rw a at h in
     ⊎_elim
     (λ (b : is_new w ws ≡ true). split j a b l (λ i m. home_entry ws (suc n) N i (rw b at h1) m))
-    (λ (b : is_new w ws ≡ false). let f : false ≡ true = rw b at h1 in let z : ◌≡◌ {A = ℕ} 0 1 = cc in absurd (omega arith))
+    (λ (b : is_new w ws ≡ false). let f : false ≡ true = rw b at h1 in cc)
     (cases_Bool (is_new w ws)))
-    (λ (a : ltb w N ≡ false). let f : false ≡ true = rw a at h in let z : ◌≡◌ {A = ℕ} 0 1 = cc in absurd (omega arith))
+    (λ (a : ltb w N ≡ false). let f : false ≡ true = rw a at h in cc)
     (cases_Bool (ltb w N))
   where
     split : (j : ℕ) → ltb w N ≡ true → is_new w ws ≡ true → j < length (w ∷ ws) → ((i : ℕ) → i < length ws → (home ws (suc n) (get_or ws i 0) ≡ suc n + i) × (get_or ws i 0 < N)) → (home (w ∷ ws) n (get_or (w ∷ ws) j 0) ≡ n + j) × (get_or (w ∷ ws) j 0 < N)
@@ -181,41 +186,30 @@ home_entry (w ∷ ws) n N j h l =
         let z : n + suc j ≡ suc n + j = omega arith in
         (rw (ne_eqb w (get_or ws j 0) ne, z) p.0, p.1)
 
-home_others : (ws : List ℕ) (n s : ℕ) → ((j : ℕ) → j < length ws → get_or ws j 0 ≡ s → ⊥) → home ws n s ≡ s
-unfolding home
-home_others [] n s h = refl
-home_others (w ∷ ws) n s h = rw (ne_eqb w s (h 0 (omega arith))) (home_others ws (suc n) s (λ j l. h (suc j) (omega arith)))
-
-lawful_parts : (count : ℕ) (ws : List ℕ) → is_lawful count ws ≡ true → (length ws ≤ most_worn) × (all_new (count - length ws) ws ≡ true)
-lawful_parts count ws h = let p = parts (leb (length ws) most_worn) (leb (length ws) count) (all_new (count - length ws) ws) h in (leb-true (length ws) most_worn p.0, p.1)
+lawful_new : (count : ℕ) (ws : List ℕ) → is_lawful count ws ≡ true → all_new (count - length ws) ws ≡ true
+lawful_new count ws h = last (leb (length ws) most_worn) (leb (length ws) count) (all_new (count - length ws) ws) h
   where
-    parts : (a b d : Bool) → cond a (cond b d false) false ≡ true → (a ≡ true) × (d ≡ true)
-    parts true true d e = (refl, e)
-    parts true false d e = absurd (clash e)
-    parts false b d e = absurd (clash e)
-
--- lawful numbers are few
-pub lawful_few : (count : ℕ) (ws : List ℕ) → is_lawful count ws ≡ true → length ws ≤ most_worn
-lawful_few count ws h = (lawful_parts count ws h).0
+    last : (a b d : Bool) → cond a (cond b d false) false ≡ true → d ≡ true
+    last true true d e = e
+    last true false d e = cc
+    last false b d e = cc
 
 pub forward_law : ForwardLaw
 forward_law ws S h =
     let n = length S - length ws in
-    let a = (lawful_parts (length S) ws h).1 in (
+    let a = lawful_new (length S) ws h in (
       length_forwarded ws S,
       (λ j l. let p = home_entry ws n n j a l in getD_forwarded ws S (get_or ws j 0) p.1 ∙ ap (λ (k : ℕ). get_or S k []) p.0),
       (λ s l o. getD_forwarded ws S s l ∙ ap (λ (k : ℕ). get_or S k []) (home_others ws n s o)),
     )
 
--- each number in turn
-pub all_far : (n : ℕ) (ws : List ℕ) (j : ℕ) → j < length ws → n ≤ get_or ws j 0 → all_new n (drop j ws) ≡ false
-all_far n ws j l h = rw (drop_more ws j 0 l, le-ltb (get_or ws j 0) n h)
+-- the first of the worn numbers, and those behind it
+pub all_new-far : (n w : ℕ) (ws xs : List ℕ) → xs ≡ w ∷ ws → n ≤ w → all_new n xs ≡ false
+all_new-far n w ws xs e h = rw (e, le-ltb w n h)
 
-pub all_twice : (n : ℕ) (ws : List ℕ) (j : ℕ) → j < length ws → get_or ws j 0 < n → is_new (get_or ws j 0) (drop (j + 1) ws) ≡ false → all_new n (drop j ws) ≡ false
-all_twice n ws j l h e = rw (drop_more ws j 0 l, lt-ltb (get_or ws j 0) n h, e)
-
-pub all_skip : (n : ℕ) (ws : List ℕ) (j : ℕ) → j < length ws → get_or ws j 0 < n → is_new (get_or ws j 0) (drop (j + 1) ws) ≡ true → all_new n (drop j ws) ≡ all_new n (drop (j + 1) ws)
-all_skip n ws j l h e = rw (drop_more ws j 0 l, lt-ltb (get_or ws j 0) n h, e)
-
-pub all_end : (n : ℕ) (ws : List ℕ) (j : ℕ) → length ws ≤ j → all_new n (drop j ws) ≡ true
-all_end n ws j l = rw (drop_all j ws l)
+pub all_new-first : (n w : ℕ) (ws xs : List ℕ) (again : Bool) → xs ≡ w ∷ ws → w < n → again ≡ list_any (λ x. x == w) ws → all_new n xs ≡ cond again false (all_new n ws)
+all_new-first n w ws xs again e h a = rw (e, lt-ltb w n h, is_new-contains w ws, ← a) (flip again)
+  where
+    flip : (b : Bool) → cond (not b) (all_new n ws) false ≡ cond b false (all_new n ws)
+    flip true = refl
+    flip false = refl

@@ -1,13 +1,12 @@
 ghost use Rattle.std.specs.Prelude.{◌≡◌};
-ghost use Rattle.disk.specs.Medium.{Medium};
 ghost use Rattle.piles.specs.Fuses.{fused};
 
 use disk::admit::admit;
 use disk::disk::Disk;
 use fault::fault::Fault;
 
-// A fuse over a disk: after so many writes none reaches the disk below.
-#[derive(Drop)]
+// A fuse over a disk: after so many writes none reaches the disk below. What is handed through stands in each disk over a disk: a shared one, generic in what a write does, would be longer.
+#[derive(Clone, Debug, PartialEq, Eq, Hash, Drop)]
 pub struct Fuse<D> {
     pub(crate) below: D,
     writes: u32,
@@ -56,10 +55,10 @@ impl<D: Disk> Disk for Fuse<D> {
 
     fn write(&mut self, s: usize, buf: &[u8]) -> Result<(), Fault> {
         admit(buf.len(), s, self.below.count())?;
-        if self.writes == 0 {
+        let Some(rest) = self.writes.checked_sub(1) else {
             return Ok(());
-        }
-        self.writes -= 1;
+        };
+        self.writes = rest;
         self.below.write(s, buf)
     }
 }

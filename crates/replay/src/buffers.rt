@@ -1,5 +1,5 @@
-use fault::finding::{Finding, Kind};
-use fault::place::Place;
+use crate::findings::Findings;
+use fault::finding::Finding;
 use script::command::Lent;
 use script::digest::digest;
 use std::alloc::{AllocError, Global};
@@ -19,10 +19,9 @@ const FINDINGS_AT_START: usize = 32;
 // The buffers that a script lends, kept from call to call, and the room of the findings list.
 #[derive(Drop)]
 pub struct Buffers {
-    pub sector: Vec<u8>,
-    pub block: Vec<u8>,
-    pub scratch: Vec<u8>,
-    pub room: usize,
+    // in the order of Lent
+    bytes: [Vec<u8>; 3],
+    room: usize,
 }
 
 fn blank(heap: Global, len: usize) -> Result<Vec<u8>, AllocError> {
@@ -31,51 +30,47 @@ fn blank(heap: Global, len: usize) -> Result<Vec<u8>, AllocError> {
 
 impl Buffers {
     pub fn new(heap: Global) -> Result<Buffers, AllocError> {
-        let sector = blank(heap, SECTOR_AT_START)?;
-        let block = blank(heap, BLOCK_AT_START)?;
-        let scratch = blank(heap, SCRATCH_AT_START)?;
         Ok(Buffers {
-            sector,
-            block,
-            scratch,
+            bytes: [
+                blank(heap, SECTOR_AT_START)?,
+                blank(heap, BLOCK_AT_START)?,
+                blank(heap, SCRATCH_AT_START)?,
+            ],
             room: FINDINGS_AT_START,
         })
     }
 
     // One buffer of another length, blank.
     pub fn lend(&mut self, heap: Global, which: Lent, len: usize) -> Result<(), AllocError> {
-        let buffer = blank(heap, len)?;
-        match which {
-            Lent::Sector => self.sector = buffer,
-            Lent::Block => self.block = buffer,
-            Lent::Scratch => self.scratch = buffer,
-        }
+        self.bytes[which as usize] = blank(heap, len)?;
         Ok(())
     }
 
-    // All three buffers blank again.
-    pub fn refill(&mut self) {
-        self.sector.as_mut_slice().fill(BLANK);
-        self.block.as_mut_slice().fill(BLANK);
-        self.scratch.as_mut_slice().fill(BLANK);
+    // A list of another length for the findings.
+    pub fn lend_findings(&mut self, room: usize) {
+        self.room = room;
     }
 
-    // The digests of the three buffers.
-    pub fn digests(&self) -> (u64, u64, u64) {
-        (
-            digest(self.sector.as_slice()),
-            digest(self.block.as_slice()),
-            digest(self.scratch.as_slice()),
-        )
+    // One buffer, for a call.
+    pub fn bytes_mut(&mut self, which: Lent) -> &mut [u8] {
+        self.bytes[which as usize].as_mut_slice()
+    }
+
+    // All buffers blank again.
+    pub fn refill(&mut self) {
+        for bytes in &mut self.bytes {
+            bytes.as_mut_slice().fill(BLANK);
+        }
+    }
+
+    // The digests of the buffers.
+    pub fn digests(&self) -> [u64; 3] {
+        self.bytes.each_ref().map(|bytes| digest(bytes.as_slice()))
     }
 
     // A list for the findings of one call; no finding of a check lies nowhere.
-    pub fn fresh_findings(&self, heap: Global) -> Result<Vec<Finding>, AllocError> {
-        let none = Finding {
-            kind: Kind::BadAddress,
-            address: 0,
-            place: Place::Nowhere,
-        };
-        vec![in heap; none; self.room]
+    pub fn fresh_findings(&self, heap: Global) -> Result<Findings, AllocError> {
+        let list = vec![in heap; Finding::BLANK; self.room]?;
+        Ok(Findings { list })
     }
 }

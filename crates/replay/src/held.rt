@@ -1,9 +1,8 @@
 use volume::held::{Clear, Found};
 
 // The volume that a script holds.
-#[derive(Drop)]
+#[derive(Debug, Drop)]
 pub enum Held {
-    Nothing,
-    AsFound(Found),
-    AsClear(Clear),
+    Found(Found),
+    Clear(Clear),
 }

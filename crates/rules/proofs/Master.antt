@@ -1,6 +1,6 @@
 -- Every run keeps its promises, from what each call owes and what make owes.
 use Rattle.std.proofs.Common.{◌≡◌, ℕ, ◌-◌, Bool, true, false, cond, eqb, leb, List, length, take, sym, refl, ap, ◌∙◌, subst, arith}
-use lib.Seq.{take-length}
+use Rattle.std.proofs.Math.Seq.{take-length}
 use Rattle.std.proofs.lemmas.Bool.{true≢false, eqb-true}
 use Rattle.fault.specs.declared.refusal.Refusal.TheVariants.{BufferSize, MakeSizes}
 use Rattle.fault.specs.Refusals.{beyond, keeper}

@@ -1,6 +1,6 @@
 -- What a call that writes nothing owes.
 use Rattle.std.proofs.Common.{◌≡◌, ℕ, Bool, true, false, cond, leb, List, [], get_or, take, Ok, Err, MatchBool, Result, sym, ap, ◌∙◌, subst, inl}
-use lib.Seq.{take-nil}
+use Rattle.std.proofs.Math.Seq.{take-nil}
 use Rattle.std.proofs.lemmas.Bool.{eq-eqb}
 use Rattle.fault.specs.declared.fault.Fault.{Fault}
 use Rattle.fault.specs.declared.refusal.Refusal.TheVariants.{BufferSize, OtherSizes, Locked}

@@ -4,6 +4,7 @@ use Rattle.disk.specs.Medium.{Sectors}
 use Rattle.format.specs.Sizes.{Sizes}
 use Rattle.trees.specs.Trees.{total, hit}
 use Rattle.trees.proofs.Sums.{total_same, total_zero, total_replace, hit_same, hit_other}
+use Rattle.verdict.specs.declared.verdict.Census.{Census}
 use Rattle.verdict.specs.Verdict.{verdict_of, findings_of, checked}
 use Rattle.verdict.specs.Sound.{claims_on, OneClaimEach, NoTwoClaims}
 use Rattle.verdict.proofs.Bits.{zero_full}
@@ -25,21 +26,21 @@ pub whole_status : (S : Sectors) (z : Sizes) → Whole S z → (room : ℕ) → 
 whole_status S z w room = (verdict.one_claim_each S z.isize z.fsize room w.safe.bounds).1 (one_claim S z w)
 
 -- the counts
-pub safe_used : (S : Sectors) (z : Sizes) → Safe S z → (room : ℕ) → (verdict_of S z.isize z.fsize room).used ≡ total z.fsize (claims_on S z.isize)
+pub safe_used : (S : Sectors) (z : Sizes) → Safe S z → (room : ℕ) → (verdict_of S z.isize z.fsize room).census.used ≡ total z.fsize (claims_on S z.isize)
 safe_used S z s room = (verdict.census_counts S z.isize z.fsize room s.bounds (two_claims S z s)).0
 
-pub safe_free : (S : Sectors) (z : Sizes) (s : Safe S z) (room : ℕ) → (verdict_of S z.isize z.fsize room).free ≡ length s.free
+pub safe_free : (S : Sectors) (z : Sizes) (s : Safe S z) (room : ℕ) → (verdict_of S z.isize z.fsize room).census.free ≡ length s.free
 unfolding two_claims
 safe_free S z s room = (verdict.census_counts S z.isize z.fsize room s.bounds (two_claims S z s)).1
 
 pub safe_findings : (S : Sectors) (z : Sizes) → Safe S z → (room : ℕ) → (verdict_of S z.isize z.fsize room).findings ≡ 0
 safe_findings S z s room = (verdict.census_counts S z.isize z.fsize room s.bounds (two_claims S z s)).2
 
-pub whole_missing : (S : Sectors) (z : Sizes) → Whole S z → (room : ℕ) → (verdict_of S z.isize z.fsize room).missing ≡ 0
+pub whole_missing : (S : Sectors) (z : Sizes) → Whole S z → (room : ℕ) → (verdict_of S z.isize z.fsize room).census.missing ≡ 0
 whole_missing S z w room = zero_full (findings_of S z.isize z.fsize) (checked S z.isize z.fsize).census room (whole_status S z w room)
 
 pub safe_counted : (S : Sectors) (z : Sizes) → Safe S z → (room : ℕ)
-    → (verdict_of S z.isize z.fsize room).used + (verdict_of S z.isize z.fsize room).free + (verdict_of S z.isize z.fsize room).missing ≡ z.fsize - z.isize
+    → (verdict_of S z.isize z.fsize room).census.used + (verdict_of S z.isize z.fsize room).census.free + (verdict_of S z.isize z.fsize room).census.missing ≡ z.fsize - z.isize
 safe_counted S z s room = let c = verdict.census_covers S z.isize z.fsize room s.bounds in omega arith
 
 -- A newly made volume: the root's block is in use, every other data block is free.
@@ -55,9 +56,11 @@ fresh_verdict T z n room =
     let s = n.whole.safe in
     let b = s.bounds in
     let a = whole_status T z n.whole room in
-    let u : v.used ≡ 1 = safe_used T z s room ∙ total_same z.fsize (claims_on T z.isize) (hit z.isize) (λ c l. n.claimed c) ∙ root_alone z.isize z.fsize (omega arith) b.order in
+    let u : v.census.used ≡ 1 = safe_used T z s room ∙ total_same z.fsize (claims_on T z.isize) (hit z.isize) (λ c l. n.claimed c) ∙ root_alone z.isize z.fsize (omega arith) b.order in
     let m = whole_missing T z n.whole room in
     let g = safe_findings T z s room in
     let c = safe_counted T z s room in
-    let f : v.free ≡ z.fsize - z.isize - 1 = omega arith in
+    let f : v.census.free ≡ z.fsize - z.isize - 1 = omega arith in
+    let e : ◌≡◌ {A = Census} (record { used = v.census.used; free = v.census.free; missing = v.census.missing }) (record { used = 1; free = z.fsize - z.isize - 1; missing = 0 }) = cc in
+    let k : ◌≡◌ {A = Census} v.census (record { used = 1; free = z.fsize - z.isize - 1; missing = 0 }) = e in
     cc

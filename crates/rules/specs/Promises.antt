@@ -35,11 +35,11 @@ pub record RightVerdict (x : Point) (v : Verdict) : Type 0 where
   pub nothing_found : v.findings ≡ 0
   pub status_0_or_8 : (v.status ≡ 0) ⊎ (v.status ≡ 8)
   -- nothing is missing while no failure is unmended
-  pub nothing_missing : x.unmended ≡ false → (v.status ≡ 0) × (v.missing ≡ 0)
+  pub nothing_missing : x.unmended ≡ false → (v.status ≡ 0) × (v.census.missing ≡ 0)
   -- as many blocks are free as the superblock states
-  pub free_as_stated : v.free ≡ tfree_of (slice_index_or x.disk.sectors superblock [])
+  pub free_as_stated : v.census.free ≡ tfree_of (slice_index_or x.disk.sectors superblock [])
   -- every data block is counted
-  pub all_counted : v.used + v.free + v.missing ≡ x.sizes.fsize - x.sizes.isize
+  pub all_counted : v.census.used + v.census.free + v.census.missing ≡ x.sizes.fsize - x.sizes.isize
 
 -- a check that is served answers with a verdict
 abbrev pub Judged : Point → Answer → Type 0
@@ -70,7 +70,7 @@ BeforeOrAfter before whole now z = (i : ℕ) → Alike (files_on now z i) (files
 
 -- the verdict on a newly made volume: the root's block is in use, every other data block is free
 abbrev pub new_verdict : Sizes → Verdict
-new_verdict z = record { status = 0; used = 1; free = z.fsize - z.isize - 1; missing = 0; findings = 0 }
+new_verdict z = record { status = 0; census = record { used = 1; free = z.fsize - z.isize - 1; missing = 0 }; findings = 0 }
 
 -- THE LAW
 pub record EveryRunKeepsItsPromises : Type 0 where

@@ -1,6 +1,6 @@
 -- The free list and the census: what is left, one turn further.
 use Rattle.std.proofs.Common.{◌≡◌, ℕ, zero, suc, ◌+◌, ◌-◌, ◌<◌, ◌≤◌, true, false, List, [], get_or, refl, ap, arith}
-use native.Mathlib.Nat.{sub-zero}
+use Rattle.std.proofs.Math.Nat.{sub-zero}
 use Rattle.std.proofs.lemmas.Bool.{eq-eqb, ne_eqb, lt-ltb, le-ltb}
 use Rattle.disk.specs.Medium.{Sectors}
 use Rattle.fault.specs.declared.place.Place.TheVariants.{Member}

@@ -1,7 +1,7 @@
 -- A scan that keeps what the caller's list shows of the findings, beside one that keeps them all.
 use Rattle.std.proofs.Common.{◌≡◌, ℕ, suc, ◌+◌, Bool, true, false, cond, ltb, List, [], ◌∷◌, ◌++◌, length, set, replicate, sym, refl, ap, ◌∙◌, arith, length-append, lt-ltb}
 use Prim.Native.Nat.compare
-use lib.Bits.{bit_or}
+use Rattle.std.specs.Int.Bits.{bit_or}
 use Rattle.disk.specs.Medium.{Sectors}
 use Rattle.fault.specs.declared.place.Place.{Place}
 use Rattle.fault.specs.declared.finding.Kind.{Kind}

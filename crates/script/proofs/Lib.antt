@@ -1,2 +1,3 @@
-pub mod Folds
 pub mod Decimals
+pub mod Tokens
+pub mod Words

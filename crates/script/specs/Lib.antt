@@ -1,2 +1,4 @@
+pub mod Commands
 pub mod Digest
 pub mod Numbers
+pub mod Words

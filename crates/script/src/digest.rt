@@ -8,6 +8,7 @@ const START: u64 = 0xCBF29CE484222325;
 
 const PRIME: u64 = 0x100000001B3;
 
+#[tactic(auto, unfolding(crate::specs::Digest::fnv_byte))]
 fn with_byte(h: u64, b: u8) -> u64
     ensures { result ≡ fnv_byte h b }
 {
@@ -18,11 +19,7 @@ fn with_byte(h: u64, b: u8) -> u64
 fn with_bytes(start: u64, bytes: &[u8]) -> u64
     ensures { result ≡ fnv start bytes.now }
 {
-    let mut h = start;
-    for b in bytes {
-        h = with_byte(h, *b);
-    }
-    h
+    bytes.iter().copied().fold(start, with_byte)
 }
 
 pub fn digest(bytes: &[u8]) -> u64

@@ -4,6 +4,5 @@
 pub mod command;
 pub mod digest;
 pub mod meter;
-pub mod pieces;
 pub mod poke;
 pub mod token;

@@ -1,4 +1,4 @@
-ghost use Rattle.std.specs.Prelude.{◌≡◌, ℕ, ◌<◌, List, [], ◌∷◌, length, set, if◌then◌else◌, nat_lt, slice_index_or, slice_set};
+ghost use Rattle.std.specs.Prelude.{◌≡◌, ℕ, ◌<◌, List, [], ◌∷◌, length, set, if◌then◌else◌, nat_lt, slice_index_or, slice_set, ◌↔◌, IsSome, IfSome};
 ghost use Rattle.disk.specs.Medium.{ran, sector_bytes};
 ghost use Rattle.disk.specs.Disks.{answer};
 
@@ -7,7 +7,7 @@ use disk::disk::Disk;
 use fault::fault::Fault;
 
 // One byte to be set in one sector.
-#[derive(Drop)]
+#[derive(Clone, Copy, Debug, PartialEq, Eq, Hash)]
 pub struct Poke {
     sector: u32,
     at: u32,
@@ -17,18 +17,15 @@ pub struct Poke {
 
 impl Poke {
     // The byte's place lies within a sector, its value below 256.
-    pub fn new(sector: u32, at: u32, byte: u32) -> Option<Poke> {
+    pub fn new(sector: u32, at: u32, byte: u32) -> Option<Poke>
+        ensures valid { IsSome result ↔ ((at < sector_bytes) × (byte < 256)) }
+        ensures value { IfSome result (λ p. (p.sector ≡ sector) × (p.at ≡ at) × (p.byte ≡ byte)) }
+    {
         if at as usize >= SECTOR {
             return None;
         }
-        if byte > u8::MAX as u32 {
-            return None;
-        }
-        Some(Poke {
-            sector,
-            at,
-            byte: byte as u8,
-        })
+        let byte = u8::try_from(byte).ok()?;
+        Some(Poke { sector, at, byte })
     }
 
     // Reads the sector, sets the byte and writes the sector again; refused as the read is.

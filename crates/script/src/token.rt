@@ -1,8 +1,12 @@
-ghost use Rattle.std.specs.Prelude.{◌≡◌};
+ghost use Rattle.std.specs.Prelude.{◌≡◌, ℕ, ◌-◌, ◌≤◌, Some, SomeIff};
 ghost use Rattle.script.specs.Numbers.{script_number};
+ghost use Rattle.script.specs.Words.{word_text, Names, Reads};
+
+use std::error::Error;
+use std::fmt;
 
 // The words that a script knows.
-#[derive(Clone, Copy)]
+#[derive(Clone, Copy, Debug, PartialEq, Eq, Hash)]
 pub enum Word {
     Disk,
     Plain,
@@ -26,66 +30,132 @@ pub enum Word {
 }
 
 // One word of a line: a known word, or a number below 2^32.
-#[derive(Clone, Copy)]
+#[derive(Clone, Copy, Debug, PartialEq, Eq, Hash)]
 pub enum Token {
     Named(Word),
     Number(u32),
 }
 
-fn word_of(text: &[u8]) -> Option<Word> {
-    match text {
-        b"disk" => Some(Word::Disk),
-        b"plain" => Some(Word::Plain),
-        b"swapped" => Some(Word::Swapped),
-        b"worn" => Some(Word::Worn),
-        b"power" => Some(Word::Power),
-        b"lend" => Some(Word::Lend),
-        b"sector" => Some(Word::Sector),
-        b"block" => Some(Word::Block),
-        b"scratch" => Some(Word::Scratch),
-        b"findings" => Some(Word::Findings),
-        b"poke" => Some(Word::Poke),
-        b"digest" => Some(Word::Digest),
-        b"image" => Some(Word::Image),
-        b"buffers" => Some(Word::Buffers),
-        b"make" => Some(Word::Make),
-        b"find" => Some(Word::Find),
-        b"check" => Some(Word::Check),
-        b"clear" => Some(Word::Clear),
-        b"close" => Some(Word::Close),
+// A word that means nothing where it stands.
+#[derive(Clone, Copy, Debug, PartialEq, Eq, Hash)]
+pub struct UnknownWord;
+
+impl Word {
+    // Every word.
+    const ALL: [Word; 19] = [
+        Word::Disk,
+        Word::Plain,
+        Word::Swapped,
+        Word::Worn,
+        Word::Power,
+        Word::Lend,
+        Word::Sector,
+        Word::Block,
+        Word::Scratch,
+        Word::Findings,
+        Word::Poke,
+        Word::Digest,
+        Word::Image,
+        Word::Buffers,
+        Word::Make,
+        Word::Find,
+        Word::Check,
+        Word::Clear,
+        Word::Close,
+    ];
+
+    // The word as it stands in a line.
+    pub fn as_str(self) -> &'static str
+        ensures { result.now ≡ word_text self }
+    {
+        match self {
+            Word::Disk => "disk",
+            Word::Plain => "plain",
+            Word::Swapped => "swapped",
+            Word::Worn => "worn",
+            Word::Power => "power",
+            Word::Lend => "lend",
+            Word::Sector => "sector",
+            Word::Block => "block",
+            Word::Scratch => "scratch",
+            Word::Findings => "findings",
+            Word::Poke => "poke",
+            Word::Digest => "digest",
+            Word::Image => "image",
+            Word::Buffers => "buffers",
+            Word::Make => "make",
+            Word::Find => "find",
+            Word::Check => "check",
+            Word::Clear => "clear",
+            Word::Close => "close",
+        }
+    }
+}
+
+impl fmt::Display for Word {
+    ghost output = { λ w. Some (word_text w) };
+
+    fn fmt<W: fmt::Write>(&self, f: &mut fmt::Formatter<W>) -> fmt::Result {
+        f.write_str(self.as_str())
+    }
+}
+
+impl TryFrom<&[u8]> for Word {
+    type Error = UnknownWord;
+
+    ghost try_from_gives = { λ text r. Names word_text text.now r };
+
+    fn try_from(text: &[u8]) -> Result<Word, UnknownWord> {
+        Word::ALL
+            .iter()
+            .copied()
+            .find(|word| word.as_str().as_bytes() == text)
+            .ok_or(UnknownWord)
+    }
+}
+
+impl TryFrom<&[u8]> for Token {
+    type Error = UnknownWord;
+
+    ghost try_from_gives = { λ text r. Reads text.now r };
+
+    fn try_from(text: &[u8]) -> Result<Token, UnknownWord> {
+        match number_of(text) {
+            Some(n) => Ok(Token::Number(n)),
+            None => Ok(Token::Named(Word::try_from(text)?)),
+        }
+    }
+}
+
+impl fmt::Display for UnknownWord {
+    fn fmt<W: fmt::Write>(&self, f: &mut fmt::Formatter<W>) -> fmt::Result {
+        f.write_str("unknown word")
+    }
+}
+
+impl Error for UnknownWord {}
+
+// The value of a decimal digit.
+fn digit(b: u8) -> Option<u32>
+    ensures { SomeIff result ((48 ≤ b) × (b ≤ 57)) (b - 48) }
+{
+    match b {
+        b'0'..=b'9' => Some(u32::from(b - b'0')),
         _ => None,
     }
 }
 
 // One or more digits that give a number below 2^32.
+#[tactic(auto, using(crate::proofs::Decimals::all_met, crate::proofs::Decimals::too_large_at))]
 fn number_of(text: &[u8]) -> Option<u32>
     ensures { result ≡ script_number text.now }
 {
     if text.is_empty() {
         return None;
     }
-    let mut n = 0u64;
+    let mut n = 0u32;
     for b in text {
-        if *b < b'0' {
-            return None;
-        }
-        if *b > b'9' {
-            return None;
-        }
-        n = 10 * n + (*b - b'0') as u64;
-        if n > u32::MAX as u64 {
-            return None;
-        }
+        n = n.checked_mul(10)?.checked_add(digit(*b)?)?;
     }
-    Some(n as u32)
-}
-
-pub fn token_of(text: &[u8]) -> Option<Token> {
-    if let Some(w) = word_of(text) {
-        return Some(Token::Named(w));
-    }
-    if let Some(n) = number_of(text) {
-        return Some(Token::Number(n));
-    }
-    None
+    Some(n)
 }

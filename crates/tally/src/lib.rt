@@ -2,5 +2,5 @@
 #![tactic(auto)]
 
 pub mod census;
-pub mod codes;
-pub mod tally;
+pub mod claim;
+pub mod notes;

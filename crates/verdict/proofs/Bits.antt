@@ -1,6 +1,7 @@
 -- The status, by its bits.
 use Rattle.std.proofs.Common.{◌≡◌, ℕ, ◌%◌, ◌<◌, ◌≤◌, Bool, true, false, cond, ltb, ◌⊎◌, List, [], ◌∷◌, length, refl, inl, inr, ⊎_elim, arith}
-use lib.Bits.{bit_or, or_add_and, or_mod, or_comm, and_le_r}
+use Rattle.std.specs.Int.Bits.{bit_or, or_add_and}
+use Rattle.std.proofs.lemmas.Nat.{or_mod, or_comm, and_le_r}
 use Rattle.std.proofs.lemmas.Bool.{cases_lt, lt-ltb, le-ltb}
 use Rattle.fault.specs.declared.finding.Kind.{Kind}
 use Rattle.fault.specs.declared.finding.Kind.TheVariants.{BadAddress, SecondClaim, UnknownType, CountTooLarge, BadEntry, SecondEntry}

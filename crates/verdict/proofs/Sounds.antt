@@ -241,13 +241,13 @@ module _ (S : Sectors) (lo hi : ℕ) (bounds : Bounds lo hi) where
   two_codes h b = clean_codes h.free (two_clean h) b
 
   two_census : (room : ℕ) (h : NoTwoClaims S lo hi)
-      → ((verdict_of S lo hi room).used ≡ total hi (claims_on S lo)) × ((verdict_of S lo hi room).free ≡ length h.free) × ((verdict_of S lo hi room).findings ≡ 0)
+      → ((verdict_of S lo hi room).census.used ≡ total hi (claims_on S lo)) × ((verdict_of S lo hi room).census.free ≡ length h.free) × ((verdict_of S lo hi room).findings ≡ 0)
   unfolding report
   two_census room h =
       let c = two_clean h in
       (census_used h.free c, census_free h.free c, whole_found end.log end_whole ∙ clean_found h.free c)
 
-  covers : (room : ℕ) → lo + (verdict_of S lo hi room).used + (verdict_of S lo hi room).free + (verdict_of S lo hi room).missing ≡ hi
+  covers : (room : ℕ) → lo + (verdict_of S lo hi room).census.used + (verdict_of S lo hi room).census.free + (verdict_of S lo hi room).census.missing ≡ hi
   unfolding report
   covers room = survey_covers end.codes lo hi (omega (arith, bounds.order))
 

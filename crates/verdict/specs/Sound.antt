@@ -76,15 +76,15 @@ CodesSayWhoClaims =
 abbrev pub CensusCountsTheClaims : Type 0
 CensusCountsTheClaims =
     (S : Sectors) (isize fsize room : ℕ) → Bounds isize fsize → (h : NoTwoClaims S isize fsize)
-    → ((verdict_of S isize fsize room).used ≡ total fsize (claims_on S isize))
-    × ((verdict_of S isize fsize room).free ≡ length h.free)
+    → ((verdict_of S isize fsize room).census.used ≡ total fsize (claims_on S isize))
+    × ((verdict_of S isize fsize room).census.free ≡ length h.free)
     × ((verdict_of S isize fsize room).findings ≡ 0)
 
 -- on every volume each data block is used, free or missing
 abbrev pub CensusCoversTheDataBlocks : Type 0
 CensusCoversTheDataBlocks =
     (S : Sectors) (isize fsize room : ℕ) → Bounds isize fsize
-    → isize + (verdict_of S isize fsize room).used + (verdict_of S isize fsize room).free + (verdict_of S isize fsize room).missing ≡ fsize
+    → isize + (verdict_of S isize fsize room).census.used + (verdict_of S isize fsize room).census.free + (verdict_of S isize fsize room).census.missing ≡ fsize
 
 -- every type and every address in files is lawful, and no block has two claims of files
 pub record FilesLawful (S : Sectors) (isize fsize : ℕ) : Type 0 where

@@ -42,9 +42,7 @@ abbrev pub verdict_from : ℕ → ℕ → Census → ℕ → Verdict
 verdict_from b n c room =
     record {
       status = cond (nat_lt room n) (bit_or (cond (nat_lt 0 c.missing) (bit_or b 0x08) b) 0x01) (cond (nat_lt 0 c.missing) (bit_or b 0x08) b);
-      used = c.used;
-      free = c.free;
-      missing = c.missing;
+      census = c;
       findings = n;
     }
 

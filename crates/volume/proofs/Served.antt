@@ -1,5 +1,5 @@
 -- What the tests before a check answer.
-use Rattle.std.proofs.Common.{◌≡◌, ℕ, ◌<◌, ◌≤◌, Bool, true, false, ◌&&◌, eqb, ltb, leb, List, [], length, get_or, Ok, Err, Result, sym, refl, ap, ⊎_elim, arith, ltb-true, eqb-true, leb-true}
+use Rattle.std.proofs.Common.{◌≡◌, ℕ, ◌<◌, ◌≤◌, Bool, true, false, not, ◌&&◌, eqb, ltb, leb, List, [], length, get_or, Ok, Err, Result, sym, refl, ap, ⊎_elim, arith, ltb-true, eqb-true, leb-true}
 use Rattle.std.proofs.lemmas.Bool.{cases_Bool}
 use Rattle.fault.specs.declared.fault.Fault.{Fault}
 use Rattle.fault.specs.declared.refusal.Refusal.TheVariants.{BufferSize, NoVolume, OtherSizes, Locked}
@@ -57,6 +57,15 @@ module _ (S : Sectors) (held : Sizes) (n : ℕ) where
     pub served : same_sizes z held ≡ true → leb z.fsize n ≡ true → Ok z ≡ may_check held n S
     unfolding may_check
     served p q = rw (sym e, p, q)
+
+-- a test that is negated
+pub not_true : (b : Bool) → true ≡ not b → b ≡ false
+not_true true e = let z : ◌≡◌ {A = ℕ} 0 1 = cc in absurd (omega arith)
+not_true false e = refl
+
+pub not_false : (b : Bool) → false ≡ not b → b ≡ true
+not_false true e = refl
+not_false false e = let z : ◌≡◌ {A = ℕ} 0 1 = cc in absurd (omega arith)
 
 pub the_same : (z w : Sizes) → same_sizes z w ≡ true → z ≡ w
 the_same z w e =

@@ -1,20 +1,28 @@
 -- What the calls return, as answers of the rules.
 use Rattle.std.specs.Prelude.{Ok, Err, Result}
 use Rattle.fault.specs.declared.fault.Fault.{Fault}
+use Rattle.fault.specs.declared.refusal.Refusal.{Refusal}
 use Rattle.format.specs.declared.geometry.Geometry.{Geometry}
 use Rattle.format.specs.Sizes.{Sizes}
+use Rattle.format.specs.Area.{Area}
 use Rattle.verdict.specs.declared.verdict.Verdict.{Verdict}
 use Rattle.rules.specs.Calls.{Answer, sized, judged, done, refused}
 use Rattle.volume.specs.declared.held.Found.{Found}
 use Rattle.volume.specs.declared.held.Clear.{Clear}
+use Rattle.volume.specs.declared.held.NotCleared.{NotCleared}
 
 -- the sizes that a geometry holds
 abbrev pub sizes_of : Geometry → Sizes
 sizes_of g = record { isize = g.isize; fsize = g.fsize }
 
-abbrev pub looked_up : Result Geometry Fault → Result Sizes Fault
-looked_up (Ok g) = Ok (sizes_of g)
+-- a volume that was looked up, by its sizes
+abbrev pub looked_up : Result Area Fault → Result Sizes Fault
+looked_up (Ok v) = Ok (sizes_of v.sizes)
 looked_up (Err f) = Err f
+
+abbrev pub identified : Result Geometry Refusal → Result Sizes Refusal
+identified (Ok g) = Ok (sizes_of g)
+identified (Err r) = Err r
 
 -- find gives a volume of the sizes found
 abbrev pub find_says : Result Found Fault → Answer
@@ -26,14 +34,14 @@ check_says (Ok v) = judged v
 check_says (Err f) = refused f
 
 -- clear gives the volume clear, or back as it was with the refusal
-abbrev pub clear_says : Result Clear (Found × Fault) → Answer
+abbrev pub clear_says : Result Clear NotCleared → Answer
 clear_says (Ok v) = done
-clear_says (Err e) = refused e.1
+clear_says (Err e) = refused e.fault
 
 -- the volume that a clear gives back
-abbrev pub cleared_sizes : Result Clear (Found × Fault) → Sizes
+abbrev pub cleared_sizes : Result Clear NotCleared → Sizes
 cleared_sizes (Ok v) = sizes_of v.sizes
-cleared_sizes (Err e) = sizes_of e.0.sizes
+cleared_sizes (Err e) = sizes_of e.volume.sizes
 
 abbrev pub make_says : Result (Unit {0}) Fault → Answer
 make_says (Ok u) = done

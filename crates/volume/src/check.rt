@@ -1,46 +1,41 @@
 ghost use Rattle.std.specs.Prelude.{◌≡◌, ℕ, ◌<◌, ◌≤◌, List, [], length, IfOk, OnOk, slice_index_or};
-ghost use Rattle.format.specs.Layout.{block_bytes, superblock};
-ghost use Rattle.rules.specs.Calls.{same_sizes, may_check, check_answer, scratch_after, findings_after};
+ghost use Rattle.format.specs.Layout.{superblock};
+ghost use Rattle.rules.specs.Calls.{may_check, check_answer, scratch_after, findings_after};
 ghost use Rattle.rules.specs.Runs.{check as check_call};
 ghost use Rattle.rules.specs.Promises.{CarriesOn};
 ghost use Rattle.volume.specs.Answers.{looked_up, check_says, sizes_of};
 
 use crate::held::Volume;
-use crate::identify::{look_up, refuse};
+use crate::identify::look_up;
 use checking::run::run_check;
 use disk::disk::Disk;
 use fault::fault::Fault;
 use fault::finding::Finding;
 use fault::refusal::Refusal;
 use format::geometry::Geometry;
+use format::layout::{BLOCK_BYTES, Block};
+use format::on_disk::OnDisk;
 use verdict::verdict::Verdict;
 
-fn same_sizes(a: Geometry, b: Geometry) -> bool
-    ensures { result ≡ same_sizes (sizes_of a) (sizes_of b) }
-{
-    a.isize() == b.isize() && a.fsize() == b.fsize()
-}
-
 // The tests before a check of the volume held, in their order: 5, 7, 8, 3. The superblock is left in sb.
-pub(crate) fn may_check<D: Disk>(
-    d: &D,
+pub(crate) fn may_check<'d, D: Disk>(
+    d: &'d D,
     held: Geometry,
     scratch: usize,
-    sb: &mut [u8],
-) -> Result<Geometry, Fault>
-    requires sized { length sb.old ≡ block_bytes }
+    sb: &mut Block,
+) -> Result<OnDisk<'d, D>, Fault>
     ensures answer { looked_up result ≡ may_check (sizes_of held) scratch (D.Disk.medium d.now).sectors }
-    ensures room { IfOk result (λ z. (z.fsize ≤ length (D.Disk.medium d.now).sectors) × (z.fsize ≤ scratch) × (sizes_of z ≡ sizes_of held)) }
+    ensures room { IfOk result (λ v. (v.sectors ≡ (D.Disk.medium d.now).sectors) × (v.sizes.fsize ≤ scratch) × (sizes_of v.sizes ≡ sizes_of held)) }
     ensures buffer { OnOk result (sb.new ≡ slice_index_or (D.Disk.medium d.now).sectors superblock []) }
 {
-    let sizes = look_up(d, sb)?;
-    if !same_sizes(sizes, held) {
-        return Err(refuse(Refusal::OtherSizes));
+    let volume = look_up(d, sb)?;
+    if volume.sizes() != held {
+        return Err(Fault::from(Refusal::OtherSizes));
     }
-    if scratch < sizes.fsize() as usize {
-        return Err(refuse(Refusal::BufferSize));
+    if scratch < held.fsize() as usize {
+        return Err(Fault::from(Refusal::BufferSize));
     }
-    Ok(sizes)
+    Ok(volume)
 }
 
 // Checks the volume held: files, free list, missing blocks. Leaves a code for each block in scratch, and the first findings in the list.
@@ -55,7 +50,7 @@ pub fn check<D: Disk, V: Volume>(
     ensures findings { findings.new ≡ findings_after (D.Disk.medium d.now).sectors (may_check (V.Volume.sizes held.now) (length scratch.old) (D.Disk.medium d.now).sectors) findings.old }
     ensures runs { CarriesOn (check_call (V.Volume.sizes held.now) (length scratch.old) (length findings.old)) (D.Disk.medium d.now) (check_says result) (D.Disk.medium d.now) }
 {
-    let mut sb = [0u8; 512];
-    let sizes = may_check(d, held.geometry(), scratch.len(), &mut sb)?;
-    Ok(run_check(d, sizes, scratch, findings))
+    let mut sb = [0; BLOCK_BYTES];
+    let volume = may_check(d, held.geometry(), scratch.len(), &mut sb)?;
+    Ok(run_check(&volume, scratch, findings))
 }

@@ -10,15 +10,18 @@ use crate::held::{Clear, Found};
 use crate::identify::look_up;
 use disk::disk::Disk;
 use fault::fault::Fault;
+use format::layout::BLOCK_BYTES;
 
 // Finds the volume on a disk. Refused with 5 where there is no superblock, with 7 where sizes or type are unlawful or the volume does not fit.
 pub fn find<D: Disk>(d: &D) -> Result<Found, Fault>
     ensures answer { find_says result ≡ find_answer (lookup (D.Disk.medium d.now).sectors) }
     ensures runs { CarriesOn find_call (D.Disk.medium d.now) (find_says result) (D.Disk.medium d.now) }
 {
-    let mut sb = [0u8; 512];
-    let sizes = look_up(d, &mut sb)?;
-    Ok(Found { sizes })
+    let mut sb = [0; BLOCK_BYTES];
+    let volume = look_up(d, &mut sb)?;
+    Ok(Found {
+        sizes: volume.sizes(),
+    })
 }
 
 impl Clear {

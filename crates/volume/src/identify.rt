@@ -1,68 +1,42 @@
-ghost use Rattle.std.specs.Prelude.{◌≡◌, ℕ, ◌<◌, ◌≤◌, List, [], length, if◌then◌else◌, Ok, Err, slice_index_or};
+ghost use Rattle.std.specs.Prelude.{◌≡◌, ℕ, ◌<◌, ◌≤◌, List, [], length, IfOk, if◌then◌else◌, Ok, Err, slice_index_or};
 ghost use Rattle.fault.specs.declared.refusal.Refusal.TheVariants.{NoVolume};
-ghost use Rattle.fault.specs.Refusals.{beyond, keeper};
-ghost use Rattle.format.specs.Layout.{block_bytes, superblock};
+ghost use Rattle.format.specs.Layout.{superblock};
 ghost use Rattle.rules.specs.Calls.{is_volume, sizes_in, lookup};
-ghost use Rattle.volume.specs.Answers.{looked_up};
+ghost use Rattle.volume.specs.Answers.{looked_up, identified};
 
 use disk::disk::{Disk, get};
-use fault::fault::{Fault, Layer};
-use fault::place::Place;
+use fault::fault::Fault;
 use fault::refusal::Refusal;
 use format::geometry::Geometry;
-use format::layout::SUPERBLOCK;
-use format::superblock;
-
-// A refusal of the keeper, which has no place.
-pub(crate) fn refuse(refusal: Refusal) -> Fault
-    ensures { result ≡ keeper refusal }
-{
-    Fault {
-        refusal,
-        layer: Layer::Keeper,
-        place: Place::Nowhere,
-    }
-}
-
-// Sector s lies beyond the end of the disk.
-pub(crate) fn beyond_end(s: usize) -> Fault
-    ensures { result ≡ beyond s }
-{
-    Fault {
-        refusal: Refusal::BeyondEnd,
-        layer: Layer::Disk,
-        place: Place::Sector(s),
-    }
-}
+use format::layout::{Block, SUPERBLOCK};
+use format::number::Number;
+use format::on_disk::OnDisk;
+use format::superblock::{Field, type_fits};
 
 // The sizes in a superblock on a disk of n sectors, if they and the type are lawful and the volume fits.
-fn identify(sb: &[u8], n: usize) -> Result<Geometry, Fault>
-    requires { length sb.now ≡ block_bytes }
-    ensures { looked_up result ≡ (if is_volume sb.now n then Ok (sizes_in sb.now) else Err (keeper NoVolume)) }
+fn identify(sb: &Block, n: usize) -> Result<Geometry, Refusal>
+    ensures { identified result ≡ (if is_volume sb.now n then Ok (sizes_in sb.now) else Err NoVolume) }
 {
-    let isize = superblock::isize(sb) as u32;
-    let fsize = superblock::fsize(sb);
-    let fits = superblock::type_fits(sb);
-    let Some(sizes) = Geometry::new(isize, fsize) else {
-        return Err(refuse(Refusal::NoVolume));
-    };
-    if fits && fsize as usize <= n {
-        return Ok(sizes);
+    let sizes = Geometry::new(Field::Isize.get(sb), Field::Fsize.get(sb)).ok_or(Refusal::NoVolume)?;
+    if type_fits(sb) && sizes.fsize() as usize <= n {
+        Ok(sizes)
+    } else {
+        Err(Refusal::NoVolume)
     }
-    Err(refuse(Refusal::NoVolume))
 }
 
 // The volume on a disk; its superblock is left in sb.
-pub(crate) fn look_up<D: Disk>(d: &D, sb: &mut [u8]) -> Result<Geometry, Fault>
-    requires { length sb.old ≡ block_bytes }
+pub(crate) fn look_up<'d, D: Disk>(d: &'d D, sb: &mut Block) -> Result<OnDisk<'d, D>, Fault>
     ensures answer { looked_up result ≡ lookup (D.Disk.medium d.now).sectors }
+    ensures there { IfOk result (λ v. v.sectors ≡ (D.Disk.medium d.now).sectors) }
     ensures buffer { superblock < length (D.Disk.medium d.now).sectors → sb.new ≡ slice_index_or (D.Disk.medium d.now).sectors superblock [] }
 {
     let n = d.count();
     let at = SUPERBLOCK as usize;
     if n <= at {
-        return Err(beyond_end(at));
+        return Err(Fault::beyond(at));
     }
     get(d, at, sb);
-    identify(sb, n)
+    let sizes = identify(sb, n)?;
+    Ok(OnDisk::new(d, sizes))
 }

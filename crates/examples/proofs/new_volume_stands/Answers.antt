@@ -1,4 +1,4 @@
-use mathlib.Core.Path.{refl}
+use Rattle.std.proofs.Common.{refl}
 use Rattle.numbers.specs.Numbers.{num, put_num}
 use Rattle.freelist.specs.Bytes.{zeros, give_writes, give_bytes, take_bytes, gave_all, unclaimed, emptied}
 use Rattle.rules.specs.Make.{bare_superblock, new_list}

@@ -7,7 +7,7 @@ use Rattle.freelist.proofs.list.give.Goals as goal
 pub give-requires : goal.give-requires
 give-requires g c =
     rw c.lock-guard.ensures.locked
-    (record { sized = length-set c.args.sb.now at_flock 1 ∙ c.requires.sized; lawful = rw (lock_count c.args.sb.now 1) c.requires.lawful; there = omega arith })
+    (record { lawful = rw (lock_count c.args.sb.now 1) c.requires.lawful; there = omega arith })
 
 pub drop-guard-requires : goal.drop-guard-requires
 drop-guard-requires g c =

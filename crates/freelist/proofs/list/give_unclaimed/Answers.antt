@@ -1,4 +1,4 @@
-use Rattle.std.proofs.Common.{◌≡◌, ℕ, ◌-◌, List, sym, ap, ◌∙◌, arith}
+use Rattle.std.proofs.Common.{◌≡◌, ℕ, ◌-◌, List, sym, ap, ◌∙◌, arith, rules}
 use Rattle.disk.specs.Medium.{Write, ran}
 use Rattle.disk.proofs.Writes.{ran_none, ran_append, length_ran}
 use Rattle.freelist.specs.Bytes.{unclaimed}
@@ -14,21 +14,20 @@ loop-b-init g c =
 
 pub give-requires : goal.give-requires
 give-requires g c =
-    let r = gave_all_fits (unclaimed c.args.codes.now c.loop-b.b (c.args.hi - c.loop-b.b)) c.args.sb.now c.requires.sized c.requires.lawful in
+    let r = gave_all_fits (unclaimed c.args.codes.now c.loop-b.b (c.args.hi - c.loop-b.b)) c.args.sb.now (search rules) c.requires.lawful in
     record {
-      sized = rw c.loop-b.invariant.1 r.0;
       lawful = rw c.loop-b.invariant.1 r.1;
       there = rw (c.loop-b.invariant.0, length_ran) (omega arith);
     }
 
 pub loop-b-preserved : goal.loop-b-preserved
 loop-b-preserved g c =
-    rw (passed_claimed c.args.codes.now c.loop-b.b c.args.hi c.args.sb.now (omega arith) (omega arith) (λ h. c.if-code_of-eq0.false (c.code_of.ensures ∙ h)))
+    rw (passed_claimed c.args.codes.now c.loop-b.b c.args.hi c.args.sb.now (omega arith) (omega arith) (sym c.if-is_unclaimed.ensures))
     (c.loop-b.invariant.0, c.loop-b.invariant.1, omega arith)
 
-pub loop-b-preserved-then-code_of-eq0 : goal.loop-b-preserved-then-code_of-eq0
-loop-b-preserved-then-code_of-eq0 g c =
-    rw (gave_unclaimed c.args.codes.now c.loop-b.b c.args.hi c.args.sb.now (omega arith) (omega arith) (sym c.code_of.ensures ∙ c.if-code_of-eq0.true)) (
+pub loop-b-preserved-then-is_unclaimed : goal.loop-b-preserved-then-is_unclaimed
+loop-b-preserved-then-is_unclaimed g c =
+    rw (gave_unclaimed c.args.codes.now c.loop-b.b c.args.hi c.args.sb.now (omega arith) (omega arith) (sym c.if-is_unclaimed.ensures)) (
       rw (c.give.ensures.wrote, c.loop-b.invariant.0, ran_append, c.loop-b.invariant.1),
       rw (c.give.ensures.after, c.loop-b.invariant.1),
       omega arith,

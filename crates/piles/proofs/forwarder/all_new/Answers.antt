@@ -1,25 +1,18 @@
-use Rattle.std.proofs.Common.{◌≡◌, ℕ, ◌+◌, true, false, List, get_or, drop, sym, ap, ◌∙◌, arith}
-use Rattle.std.proofs.lemmas.List.{take_rest}
-use Rattle.piles.specs.Forward.{is_new}
-use Rattle.piles.proofs.Homes.{all_far, all_twice, all_skip, all_end}
+use Rattle.std.proofs.Common.{sym, ◌∙◌, arith}
+use Rattle.piles.proofs.Homes.{all_new-far, all_new-first}
 use Rattle.piles.proofs.forwarder.all_new.Goals as goal
+use Rattle.piles.proofs.forwarder.all_new.Goals.{then-w-n-via-then-w-n, then-w-n-via-else-w-n+then-contains}
 
 pub returns-then-w-n : goal.returns-then-w-n
-returns-then-w-n c = sym (all_far c.args.n c.args.worn.now c.loop-j.j (omega arith) (omega arith)) ∙ c.loop-j.invariant
+returns-then-w-n c =
+    elim c.then-w-n.branch [
+      | then-w-n-via-then-w-n w ↦ sym (all_new-far c.args.n _ _ _ c.in-Some.ensures.cases.0 (omega arith)) ∙ c.loop-w.invariant
+      | then-w-n-via-else-w-n+then-contains w ↦
+          let e = all_new-first c.args.n _ _ _ w.contains.result c.in-Some.ensures.cases.0 w.if-w-n.false w.contains.ensures.value in
+          sym (rw w.if-contains.true at e) ∙ c.loop-w.invariant
+    ]
 
-pub returns-then-not-is_new : goal.returns-then-not-is_new
-returns-then-not-is_new c =
-    let w = c.args.worn.now in
-    let e : is_new (get_or c.args.worn.now c.loop-j.j 0) (drop (c.loop-j.j + 1) c.args.worn.now) ≡ false =
-    sym (ap (λ (x : List ℕ). is_new (get_or w c.loop-j.j 0) x) (take_rest w (c.loop-j.j + 1))) ∙ sym c.is_new.ensures ∙ c.if-not-is_new.true in
-    sym (all_twice c.args.n w c.loop-j.j (omega arith) (omega arith) e) ∙ c.loop-j.invariant
-
-pub loop-j-preserved : goal.loop-j-preserved
-loop-j-preserved c =
-    let w = c.args.worn.now in
-    let e : is_new (get_or c.args.worn.now c.loop-j.j 0) (drop (c.loop-j.j + 1) c.args.worn.now) ≡ true =
-    sym (ap (λ (x : List ℕ). is_new (get_or w c.loop-j.j 0) x) (take_rest w (c.loop-j.j + 1))) ∙ sym c.is_new.ensures ∙ c.if-not-is_new.false in
-    sym (all_skip c.args.n w c.loop-j.j (omega arith) (omega arith) e) ∙ c.loop-j.invariant
-
-pub returns : goal.returns
-returns c = sym (all_end c.args.n c.args.worn.now c.loop-j.j (omega arith)) ∙ c.loop-j.invariant
+pub loop-w-preserved : goal.loop-w-preserved
+loop-w-preserved c =
+    let e = all_new-first c.args.n _ _ _ c.contains.result c.in-Some.ensures.cases.0 c.if-w-n.false c.contains.ensures.value in
+    sym (rw c.if-contains.false at e) ∙ c.loop-w.invariant

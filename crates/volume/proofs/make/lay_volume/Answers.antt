@@ -21,13 +21,13 @@ same_length W m m₁ e = ap (λ (x : Medium). length x.sectors) e ∙ length_ran
 pub write_root-requires : goal.write_root-requires
 write_root-requires g c =
     let n = same_length (list_writes c.args.sizes.isize (c.args.sizes.isize - first_list_block)) (g.D.Disk.medium c.args.d.now) (g.D.Disk.medium c.write_list.new.d) c.write_list.ensures in
-    record { there = omega arith }
+    omega arith
 
 pub write_free_list-requires : goal.write_free_list-requires
 write_free_list-requires g c =
     let n = same_length (list_writes c.args.sizes.isize (c.args.sizes.isize - first_list_block)) (g.D.Disk.medium c.args.d.now) (g.D.Disk.medium c.write_list.new.d) c.write_list.ensures in
     let k = same_length ((c.args.sizes.isize, root_block) ∷ []) (g.D.Disk.medium c.write_list.new.d) (g.D.Disk.medium c.write_root.new.d) c.write_root.ensures in
-    record { there = omega arith; sized = c.requires.sized }
+    omega arith
 
 pub returns : goal.returns
 returns g c =

@@ -1,19 +1,12 @@
-use Rattle.std.proofs.Common.{◌≡◌, ℕ, ◌+◌, ◌-◌, List, [], ◌∷◌, length, replicate, refl, ap, ◌∙◌, arith, rules}
+use Rattle.std.proofs.Common.{◌≡◌, ℕ, ◌+◌, ◌-◌, List, [], ◌∷◌, length, ap, ◌∙◌, arith, rules}
 use Rattle.disk.specs.Medium.{Medium, ran}
 use Rattle.disk.proofs.Writes.{length_ran, ran_append}
 use Rattle.format.specs.Layout.{block_bytes, superblock}
 use Rattle.format.specs.Superblock.{nfree_of}
-use Rattle.freelist.specs.Bytes.{zeros, emptied, gave_all, unclaimed}
+use Rattle.freelist.specs.Bytes.{emptied, gave_all, unclaimed}
 use Rattle.freelist.proofs.Stands.{emptied_count}
 use Rattle.rules.specs.Make.{bare_superblock, new_list}
 use Rattle.volume.proofs.make.write_free_list.Goals as goal
-
-blank : ◌≡◌ {A = List ℕ} (replicate 512 0) (zeros block_bytes)
-unfolding zeros
-blank = refl
-
-pub lay_superblock-requires : goal.lay_superblock-requires
-lay_superblock-requires g c = record { sized = search rules; blank = c.copy_from_slice.ensures.after ∙ blank }
 
 pub give_unclaimed-requires : goal.give_unclaimed-requires
 give_unclaimed-requires g c =
@@ -21,10 +14,10 @@ give_unclaimed-requires g c =
     let i = c.isize.ensures in
     let f = c.fsize.ensures in
     let e = c.empty_list.ensures in
-    let l : length c.lay_superblock.new.sb ≡ block_bytes = search rules in
-    let n : nfree_of (emptied c.lay_superblock.new.sb) ≡ 1 = emptied_count c.lay_superblock.new.sb l in
+    let l : length c.bare_superblock.result ≡ block_bytes = search rules in
+    let n : nfree_of (emptied c.bare_superblock.result) ≡ 1 = emptied_count c.bare_superblock.result l in
     let k : nfree_of c.empty_list.new.sb ≡ 1 = ap nfree_of e ∙ n in
-    record { sized = search rules; lawful = omega arith; order = omega arith; there = omega arith; small = omega arith }
+    record { lawful = omega arith; order = omega arith; there = omega arith; small = omega arith }
 
 pub put-requires : goal.put-requires
 put-requires g c =
@@ -33,7 +26,7 @@ put-requires g c =
     let V = (gave_all (unclaimed [] (c.isize.result + 1) (c.fsize.result - (c.isize.result + 1))) c.empty_list.new.sb).0 in
     let n : length (g.D.Disk.medium c.give_unclaimed.new.d).sectors ≡ length (g.D.Disk.medium c.args.d.now).sectors =
     ap (λ (m : Medium). length m.sectors) w ∙ length_ran V (g.D.Disk.medium c.args.d.now) in
-    record { within = omega arith; sized = search rules }
+    omega arith
 
 new_list_is : (i f : ℕ) (s : List ℕ) → s ≡ emptied (bare_superblock i f) → gave_all (unclaimed [] (i + 1) (f - (i + 1))) s ≡ new_list i f
 unfolding new_list
@@ -44,7 +37,7 @@ returns g c =
     let i = c.args.sizes.isize in
     let f = c.args.sizes.fsize in
     let m = g.D.Disk.medium c.args.d.now in
-    let s : c.empty_list.new.sb ≡ emptied (bare_superblock i f) = c.empty_list.ensures ∙ ap emptied c.lay_superblock.ensures in
+    let s : c.empty_list.new.sb ≡ emptied (bare_superblock i f) = c.empty_list.ensures ∙ ap emptied c.bare_superblock.ensures in
     let n = new_list_is i f c.empty_list.new.sb s in
     let a = c.isize.ensures in
     let b = c.fsize.ensures in

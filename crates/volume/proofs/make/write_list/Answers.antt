@@ -15,7 +15,7 @@ put-requires g c =
     let b = c.args.sizes.bounds in
     let e : length (g.D.Disk.medium c.loop-n.d).sectors ≡ length (g.D.Disk.medium c.args.d.now).sectors =
     ap (λ (m : Medium). length m.sectors) c.loop-n.invariant ∙ length_ran (list_writes c.isize-isize.result c.loop-n.n) (g.D.Disk.medium c.args.d.now) in
-    record { within = omega arith; sized = c.list_block-block.ensures.sized }
+    omega arith
 
 pub loop-n-preserved : goal.loop-n-preserved
 unfolding list_writes
@@ -23,7 +23,7 @@ loop-n-preserved g c =
     let W = list_writes c.isize-isize.result c.loop-n.n in
     let V = (first_list_block + c.loop-n.n, list_block c.isize-isize.result c.loop-n.n) ∷ [] in
     let m = g.D.Disk.medium c.args.d.now in
-    let b = c.list_block-block.ensures.is in
+    let b = c.list_block.ensures in
     let i = c.loop-n.invariant in
     let p = c.put.ensures in
     let e : g.D.Disk.medium c.put.new.d ≡ ran V (ran W m) = cc in

@@ -1,23 +1,14 @@
-use Rattle.std.proofs.Common.{refl, arith}
+use Rattle.std.proofs.Common.{arith}
 use Rattle.scan.proofs.Members.{left_none, left_step}
 use Rattle.checking.proofs.list.ListWalk.next.Goals as goal
 
-pub returns-then-self-eq0 : goal.returns-then-self-eq0
-returns-then-self-eq0 c =
+pub returns-in_err-index-clause-left : goal.returns-in_err-index-clause-left
+returns-in_err-index-clause-left c = λ v s.
     let l = c.args.self.now in
-    record {
-      left = λ ss lo hi s. left_none ss lo hi l.member l.node l.left s c.if-self-eq0.true;
-      ready = tt;
-      turns = omega arith;
-      member = refl;
-    }
+    rw c.from_residual.ensures (left_none v.sectors v.sizes.isize v.sizes.fsize l.member l.node l.left s (omega (arith, c.in_err-index.ensures)))
 
-pub returns : goal.returns
-returns c =
+pub returns-clause-left : goal.returns-clause-left
+returns-clause-left c = λ v s.
     let l = c.args.self.now in
-    record {
-      left = λ ss lo hi s. let m = left_step ss lo hi l.member l.node l.left s c.if-self-eq0.false in cc;
-      ready = refl;
-      turns = omega arith;
-      member = refl;
-    }
+    let m = left_step v.sectors v.sizes.isize v.sizes.fsize l.member l.node l.left s (λ z. omega (arith, z, c.in_ok-index.ensures)) in
+    let e = c.in_ok-index.ensures in cc

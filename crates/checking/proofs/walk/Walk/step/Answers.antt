@@ -1,46 +1,27 @@
 use Rattle.std.proofs.Common.{sym, ◌∙◌, arith}
-use Rattle.tally.specs.Tallies.{scan_of}
+use Rattle.tally.specs.Notes.{scan_of}
 use Rattle.tally.proofs.Meets.{unclaimed_most}
 use Rattle.checking.specs.declared.walk.Phase.TheVariants.{Files, Free}
 use Rattle.checking.specs.declared.met.Met.TheVariants.{End}
-use Rattle.checking.specs.ListLeft.{list_left}
-use Rattle.checking.proofs.Phases.{after_at, turns_at, worth_at, list_begins, report_is, enter_turns, enter_spent, leave_turns, leave_spent}
+use Rattle.checking.proofs.Phases.{no_blocks, after_at, list_begins, report_is}
 use Rattle.checking.proofs.walk.Walk.step.Goals as goal
 
-pub returns-in-Files-End : goal.returns-in-Files-End
-returns-in-Files-End g c =
+pub returns-in-Files-End-clause-left : goal.returns-in-Files-End-clause-left
+returns-in-Files-End-clause-left g c =
+    let v = c.args.notes.now.volume.now in
     let w = c.args.self.now in
-    let ss = (g.D.Disk.medium c.args.disk.now).sectors in
-    let lo = c.args.sizes.isize in
-    let hi = c.args.sizes.fsize in
-    let s = scan_of w.tally c.args.codes.now c.args.findings.now in
-    let e = c.in-Files-End.is-0 in
-    let m = c.in-Files-End.is-1 in
-    let h = c.enter.ensures in
-    let t = turns_at w.phase Files hi w.block e in
-    let u = unclaimed_most c.args.codes.now in
-    record {
-      left =
-          list_begins ss lo hi c.new-self.result.member (list_left ss lo hi c.enter.new.self (scan_of c.enter.new.tally c.args.codes.now c.enter.new.findings)) s (h.left c.args.codes.now) c.new-self.ensures.0
-          ∙ sym (after_at w.phase Files c.args.met End ss lo hi w s e m);
-      sound = record { numbered = c.requires.sound.numbered; linked = record { room = h.room; members = omega arith } };
-      effort = enter_turns _ _ _ _ _ _ h.room t (worth_at _ _ m);
-      spent = enter_spent _ _ _ _ _ _ _ _ _ _ _ h.room t (worth_at _ _ m) h.count;
-    }
+    let s = scan_of c.args.notes.now in
+    list_begins v _ _ s c.enter.ensures.left c.new-self.ensures.0 ∙ sym (after_at w.phase Files c.args.met End v w s c.in-Files-End.is-0 c.in-Files-End.is-1)
 
-pub returns-in-Free-End : goal.returns-in-Free-End
-returns-in-Free-End g c =
+pub returns-in-Files-End-clause-sound : goal.returns-in-Files-End-clause-sound
+returns-in-Files-End-clause-sound g c =
+    let h = c.enter.ensures in
+    let u = unclaimed_most c.args.notes.now.codes.now in
+    record { numbered = c.requires.sound.numbered; linked = rw h.codes (omega (arith, c.args.notes.now.sized)) }
+
+pub returns-in-Free-End-clause-left : goal.returns-in-Free-End-clause-left
+returns-in-Free-End-clause-left g c =
+    let v = c.args.notes.now.volume.now in
     let w = c.args.self.now in
-    let ss = (g.D.Disk.medium c.args.disk.now).sectors in
-    let lo = c.args.sizes.isize in
-    let hi = c.args.sizes.fsize in
-    let s = scan_of w.tally c.args.codes.now c.args.findings.now in
-    let e = c.in-Free-End.is-0 in
-    let m = c.in-Free-End.is-1 in
-    let t = turns_at w.phase Free hi w.block e in
-    record {
-      left = report_is lo hi c.isize-self.result s c.isize-self.ensures ∙ sym (after_at w.phase Free c.args.met End ss lo hi w s e m);
-      sound = record { numbered = c.requires.sound.numbered; linked = c.requires.sound.linked };
-      effort = leave_turns _ _ _ _ _ t (worth_at _ _ m);
-      spent = leave_spent _ _ _ _ _ _ _ _ _ t (worth_at _ _ m);
-    }
+    let s = scan_of c.args.notes.now in
+    report_is v _ _ s (omega arith) (no_blocks _ c.default-self.ensures) ∙ sym (after_at w.phase Free c.args.met End v w s c.in-Free-End.is-0 c.in-Free-End.is-1)

@@ -23,5 +23,5 @@ returns-in-Err g c =
       volume = refl;
       scratch = e.scratch;
       findings = e.findings;
-      runs = clear_carries (sizes_of c.args.self.sizes) (length c.args.scratch.now) (length c.args.findings.now) (g.D.Disk.medium c.args.d.now) (refused c.in-Err.f) e.answer;
+      runs = clear_carries (sizes_of c.args.self.sizes) (length c.args.scratch.now) (length c.args.findings.now) (g.D.Disk.medium c.args.d.now) (refused c.in-Err.fault) e.answer;
     }

@@ -1,7 +1,0 @@
-use Rattle.std.proofs.Common.{arith}
-use Rattle.numbers.specs.Numbers.{num}
-use Rattle.numbers.proofs.fields.get32.Goals as goal
-
-pub returns : goal.returns
-unfolding num
-returns c = omega arith
