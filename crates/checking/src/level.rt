@@ -50,7 +50,7 @@ impl Level {
 }
 
 impl Open {
-    // The next address of the innermost open table, with the depth of the tree that it heads.
+    // The next address of the innermost open table, with the depth of the tree that it heads; the walk makes them what it meets.
     pub fn next(&mut self) -> Option<(u32, u32)>
         ensures left { (v : Area) (p : Place) (s : Scan) → open_left v p self.old s ≡ open_after result v p self.new s }
         ensures ready { AddressReady result self.new }

@@ -23,7 +23,7 @@ pub enum Phase {
     Missing,
 }
 
-// The walk of a check: the phase it is in, where each phase stands, and the blocks that it has counted. One step matches the phase with what was met (forms in docs/DECISIONS.md), so the phases lie side by side.
+// The walk of a check: the phase it is in, where each phase stands, and the blocks that it has counted. One step matches the phase with what was met (forms in docs/DECISIONS.md), so the phases lie side by side. Inode, slot, entry and block are counted, since each is where a step stops and the next goes on.
 #[derive(Clone, Copy, Debug, PartialEq, Eq, Hash)]
 pub struct Walk {
     pub phase: Phase,

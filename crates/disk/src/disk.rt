@@ -1,4 +1,4 @@
-ghost use Rattle.std.specs.Prelude.{◌≡◌, ℕ, ◌<◌, List, [], ◌∷◌, length, if◌then◌else◌, slice_index_or};
+ghost use Rattle.std.specs.Prelude.{◌≡◌, ◌<◌, [], ◌∷◌, length, if◌then◌else◌, slice_index_or};
 ghost use Rattle.disk.specs.Medium.{Medium, Sized, ran};
 ghost use Rattle.disk.specs.Disks.{serves, answer};
 

@@ -55,6 +55,14 @@ impl Status {
     }
 }
 
+impl From<Status> for u8 {
+    ghost from_gives = { λ s n. n ≡ s };
+
+    fn from(status: Status) -> u8 {
+        status.bits
+    }
+}
+
 // Two digits in upper case.
 impl fmt::Display for Status {
     fn fmt<W: fmt::Write>(&self, f: &mut fmt::Formatter<W>) -> fmt::Result {

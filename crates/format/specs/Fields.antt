@@ -6,7 +6,7 @@ use Rattle.format.specs.declared.superblock.Field.TheVariants.{Isize, Fsize, Nfr
 use Rattle.format.specs.declared.inode.InodeField.{InodeField}
 use Rattle.format.specs.declared.inode.Part.{Part}
 use Rattle.format.specs.declared.inode.Part.TheVariants.{Mode, Nlink, Size, Slot}
-use Rattle.numbers.specs.Numbers.{num}
+use Rattle.numbers.specs.Numbers.{num, put_num}
 use Rattle.format.specs.Layout.{block_bytes, list_room, inode_room, slots}
 use Rattle.format.specs.Superblock.{at_isize, at_fsize, at_nfree, free_at, at_ninode, inode_at, at_tfree, at_tinode, at_magic, at_type}
 use Rattle.format.specs.Inode.{start_of_inode, slot_at}
@@ -51,6 +51,10 @@ width_of VolumeType = 4
 -- the number in a superblock x
 abbrev pub field_of : Field → List ℕ → ℕ
 field_of f x = num (width_of f) (at_of f) x
+
+-- a superblock x with v as that number
+abbrev pub with_field : Field → ℕ → List ℕ → List ℕ
+with_field f v x = put_num (width_of f) (at_of f) v x
 
 pub within : (f : Field) → IsThere f → at_of f + width_of f ≤ block_bytes
 within Isize h = lit≤ tt
@@ -125,3 +129,6 @@ narrow_inode f = go f.part
 -- the number in the block x of inode i
 abbrev pub part_of : ℕ → Part → List ℕ → ℕ
 part_of i p x = num (width_of_part p) (at_part i p) x
+
+abbrev pub with_part : ℕ → Part → ℕ → List ℕ → List ℕ
+with_part i p v x = put_num (width_of_part p) (at_part i p) v x

@@ -1,7 +1,8 @@
-ghost use Rattle.std.specs.Prelude.{◌≡◌, ℕ, ◌+◌, ◌-◌, ◌*◌, ◌<◌, ◌≤◌, true, false, is_some, MatchOption};
+ghost use Rattle.std.specs.Prelude.{◌≡◌, ◌<◌, ◌≤◌, false, is_some, MatchOption};
 ghost use Rattle.format.specs.Sizes.{lawful_sizes, inodes_of, least_isize, most_isize, most_fsize};
 
 use crate::layout::{FIRST_LIST_BLOCK, INODES_PER_BLOCK, LEAST_ISIZE, MOST_FSIZE, MOST_ISIZE};
+use std::ops::Range;
 
 // The sizes of a volume: the first data block, and the end of the data blocks.
 #[derive(Clone, Copy, Debug, PartialEq, Eq, Hash)]
@@ -17,7 +18,7 @@ impl Geometry {
         ensures when { is_some result ≡ lawful_sizes isize fsize }
         ensures held { MatchOption result (lawful_sizes isize fsize ≡ false) (λ g. (g.isize ≡ isize) × (g.fsize ≡ fsize)) }
     {
-        if isize < LEAST_ISIZE || isize > MOST_ISIZE {
+        if !(LEAST_ISIZE..=MOST_ISIZE).contains(&isize) {
             return None;
         }
         if fsize <= isize || fsize > MOST_FSIZE {
@@ -36,6 +37,17 @@ impl Geometry {
         ensures { result ≡ self.fsize }
     {
         self.fsize
+    }
+
+    // The numbers of the data blocks.
+    pub fn data_blocks(self) -> Range<u32>
+        ensures start { result.start ≡ self.isize }
+        ensures end { result.end ≡ self.fsize }
+    {
+        Range {
+            start: self.isize,
+            end: self.fsize,
+        }
     }
 
     // The number of inodes.

@@ -1,5 +1,5 @@
-ghost use Rattle.std.specs.Prelude.{◌≡◌, ℕ, ◌+◌, ◌*◌, ◌^◌, ◌<◌, ◌≤◌, ◌++◌, take, drop, replicate, [], ◌≢◌, ◌%◌, ◌-◌, length, slice_index_or};
-ghost use Rattle.format.specs.Layout.{block_bytes, inode_bytes, inodes_per_block};
+ghost use Rattle.std.specs.Prelude.{◌≡◌, ℕ, ◌+◌, ◌<◌, ◌≤◌, ◌++◌, take, drop, replicate, [], ◌≢◌, ◌%◌, ◌-◌, length, slice_index_or};
+ghost use Rattle.format.specs.Layout.{inode_bytes, inodes_per_block};
 ghost use Rattle.format.specs.Inode.{block_of_inode, start_of_inode, type_bits};
 
 use crate::layout::{Block, FIRST_LIST_BLOCK, INODE_BYTES, INODES_PER_BLOCK};
@@ -40,7 +40,7 @@ impl InodeType {
         }
     }
 
-    // Only regular files and directories claim blocks.
+    // Only regular files and directories claim blocks. All types stand here, so that none is forgotten.
     pub fn claims_blocks(self) -> bool
         ensures { result ≡ claims_blocks self }
     {

@@ -1,4 +1,4 @@
-ghost use Rattle.format.specs.Laws.{SplitLaw, SplitExamples, FieldsHaveTheirNames};
+ghost use Rattle.format.specs.Laws.{SplitLaw, SplitExamples, FieldsHaveTheirNames, FieldsArePutByTheirNames};
 
 // A position and its slot and indices determine each other; and the worked examples.
 pub fn positions_stand() -> u8
@@ -8,9 +8,10 @@ pub fn positions_stand() -> u8
     0
 }
 
-// A number read by its field is the one of that name.
+// A number read or put by its field is the one of that name.
 pub fn fields_stand() -> u8
-    ensures { FieldsHaveTheirNames }
+    ensures read { FieldsHaveTheirNames }
+    ensures put { FieldsArePutByTheirNames }
 {
     0
 }

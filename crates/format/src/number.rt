@@ -29,7 +29,8 @@ pub trait Number: Copy {
 
     final fn get(self, block: &Block) -> u32
         requires { IsThere self }
-        ensures { result ≡ num (width_of self) (at_of self) block.now }
+        ensures is { result ≡ num (width_of self) (at_of self) block.now }
+        ensures fits { result < 256 ^ width_of self }
     {
         fields::get(block, self.at(), self.width())
     }

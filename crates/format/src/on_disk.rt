@@ -6,7 +6,7 @@ use disk::disk::{Disk, get};
 use std::marker::Model;
 
 // A volume on a disk that has room for it.
-#[derive(Drop)]
+#[derive(Debug, Drop)]
 pub struct OnDisk<'d, D: Disk> {
     disk: &'d D,
     sizes: Geometry,

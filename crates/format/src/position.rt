@@ -11,6 +11,7 @@ pub const END_OF_TWO: u32 = END_OF_ONE + TABLE_WIDTH * TABLE_WIDTH;
 pub const POSITIONS: u32 = END_OF_TWO + TABLE_WIDTH * TABLE_WIDTH * TABLE_WIDTH;
 
 // A tuple, by the forms in docs/DECISIONS.md: the slot of a position, its depth, and the index at each depth, the outermost first; None past the last position.
+#[tactic(auto, unfolding(crate::specs::Position::split_of))]
 pub fn split(position: u32) -> Option<(u32, u32, u32, u32, u32)>
     ensures { result ≡ split_rule position }
 {

@@ -1,7 +1,13 @@
+use crate::layout::LIST_ROOM;
 use crate::number::Number;
 
 // The bytes of a count, an entry or an address.
 const WIDTH: usize = 4;
+
+// Where the entries of a chain member begin, and the bytes of all that one part of the list holds.
+pub const AT_ENTRIES: usize = WIDTH;
+
+pub const ENTRIES: usize = WIDTH * LIST_ROOM as usize;
 
 // A number in a chain member of the free list.
 #[derive(Clone, Copy, Debug, PartialEq, Eq, Hash)]
@@ -27,7 +33,7 @@ impl Number for MemberField {
     fn at(self) -> usize {
         match self {
             MemberField::Count => 0,
-            MemberField::Entry(k) => WIDTH + WIDTH * k,
+            MemberField::Entry(k) => AT_ENTRIES + WIDTH * k,
         }
     }
 

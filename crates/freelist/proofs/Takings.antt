@@ -1,7 +1,7 @@
 -- A take in the bytes of the superblock is a take over pages.
 use Rattle.std.proofs.Common.{◌≡◌, ℕ, zero, suc, ◌+◌, ◌-◌, ◌<◌, ◌≤◌, min, Bool, true, false, cond, eqb, ltb, leb, List, [], ◌++◌, length, get_or, take, drop, sym, refl, ap, ◌∙◌, subst, inl, inr, ⊎_elim, arith, length-append, length-drop, length-take}
 use Rattle.std.proofs.lemmas.Bool.{ltb-false, ltb-true, leb-true, le-leb, lt-ltb, false≢true, cond_both}
-use Rattle.std.proofs.lemmas.List.{get_or_append_left, get_or-append_right, get_or-take, get_or-drop}
+use Rattle.std.proofs.lemmas.List.{length-take-le, get_or_append_left, get_or-append_right, get_or-take, get_or-drop}
 use Rattle.disk.specs.Medium.{Sectors, Sized}
 use Rattle.numbers.specs.Numbers.{num, put_num, nums}
 use Rattle.numbers.specs.Laws.{Apart}
@@ -24,19 +24,16 @@ length_put_bytes o b x h =
     let e4 = length-drop (o + length b) x in
     omega arith
 
-front : (o : ℕ) (x : List ℕ) → o ≤ length x → length (take o x) ≡ o
-front o x h = length-take o x ∙ omega arith
-
 pub put_bytes_before : (o k : ℕ) (b x : List ℕ) → o + length b ≤ length x → k < o → get_or (put_bytes o b x) k 0 ≡ get_or x k 0
 unfolding put_bytes
 put_bytes_before o k b x h l =
-    let f = front o x (omega arith) in
+    let f = length-take-le o x (omega arith) in
     get_or_append_left (take o x) (b ++ drop (o + length b) x) 0 k (omega arith) ∙ get_or-take o x k 0 l
 
 pub put_bytes_here : (o k : ℕ) (b x : List ℕ) → o + length b ≤ length x → k < length b → get_or (put_bytes o b x) (o + k) 0 ≡ get_or b k 0
 unfolding put_bytes
 put_bytes_here o k b x h l =
-    let f = front o x (omega arith) in
+    let f = length-take-le o x (omega arith) in
     let e : o + k - o ≡ k = omega arith in
     get_or-append_right (take o x) (b ++ drop (o + length b) x) o (o + k) 0 f (omega arith)
     ∙ ap (λ (n : ℕ). get_or (b ++ drop (o + length b) x) n 0) e
@@ -45,7 +42,7 @@ put_bytes_here o k b x h l =
 pub put_bytes_past : (o k : ℕ) (b x : List ℕ) → o + length b ≤ length x → o + length b ≤ k → get_or (put_bytes o b x) k 0 ≡ get_or x k 0
 unfolding put_bytes
 put_bytes_past o k b x h l =
-    let f = front o x (omega arith) in
+    let f = length-take-le o x (omega arith) in
     let e : o + length b + (k - o - length b) ≡ k = omega arith in
     get_or-append_right (take o x) (b ++ drop (o + length b) x) o k 0 f (omega arith)
     ∙ get_or-append_right b (drop (o + length b) x) (length b) (k - o) 0 refl (omega arith)

@@ -13,14 +13,9 @@ use format::layout::{BLOCK_BYTES, Block, LIST_ROOM};
 use format::number::Number;
 use format::on_disk::OnDisk;
 use format::superblock::{AT_FLOCK, AT_FREE, Field, LOCKED, OPEN, set_flock};
-use format::table::MemberField;
+use format::table::{AT_ENTRIES, ENTRIES, MemberField};
 
-// The bytes of all entries that one part of the list holds.
-const ENTRIES: usize = 4 * LIST_ROOM as usize;
-
-// Where the entries of a chain member begin and end, and where those of the superblock end.
-const AT_ENTRIES: usize = 4;
-
+// Where the entries of a chain member and those of the superblock end.
 const END_ENTRIES: usize = AT_ENTRIES + ENTRIES;
 
 const END_FREE: usize = AT_FREE + ENTRIES;
@@ -33,6 +28,7 @@ pub struct TakenBlock {
 }
 
 // The superblock's bytes while the list is worked on: flock is 1, and gets its old value back on every way out.
+#[derive(Debug)]
 pub struct Locked<'a> {
     buf: &'a mut Block,
     old: u8,
@@ -52,7 +48,7 @@ impl Drop for Locked<'_> {
     }
 }
 
-// Locks the list in the superblock's bytes; the list's part there counts as chain member `member`.
+// Locks the list in the superblock's bytes, lawful or not, so what a give or a take asks of the list is asked there; the list's part there counts as chain member `member`.
 pub fn lock(buf: &mut Block, member: u32) -> Locked<'_>
     ensures locked { result.buf.now ≡ slice_set buf.old at_flock 1 }
     ensures held { flock_of result.buf.now ≡ 1 }
@@ -133,7 +129,7 @@ fn give_in<D: Disk>(d: &mut D, sb: &mut Block, block: u32)
 fn is_data(sizes: Geometry, block: u32) -> bool
     ensures { result ≡ is_data sizes.isize sizes.fsize block }
 {
-    (sizes.isize()..sizes.fsize()).contains(&block)
+    sizes.data_blocks().contains(&block)
 }
 
 // One block fewer is listed. `give_in` adds one in the same way; one function of the change would need its clauses of a closure.
@@ -256,6 +252,7 @@ pub fn give_unclaimed<D: Disk>(d: &mut D, sb: &mut Block, codes: &[u8], lo: usiz
 }
 
 // The superblock's list made empty, and its lock opened.
+#[tactic(auto, unfolding(crate::specs::Bytes::emptied))]
 pub fn empty_list(sb: &mut Block)
     ensures { sb.new ≡ emptied sb.old }
 {

@@ -68,6 +68,7 @@ impl<'a, O: ByteOrder> Disk for Image<'a, O> {
         ensures same { self.new.bytes.ghost_name ≡ self.old.bytes.ghost_name }
     {
         admit(buf.len(), s, self.sectors().len())?;
+        // A range, since std says nothing of the bytes after `as_chunks_mut`.
         let sector = &mut self.bytes[SECTOR * s..SECTOR * s + SECTOR];
         sector.copy_from_slice(buf);
         O::turn(sector);

@@ -2,7 +2,7 @@
 use Rattle.std.proofs.Common.{◌≡◌, ℕ, zero, suc, ◌+◌, ◌*◌, ◌/◌, ◌%◌, ◌^◌, ◌-◌, ◌<◌, ◌≤◌, true, ◌||◌, leb, ◌≢◌, List, [], ◌∷◌, ◌++◌, length, get_or, take, drop, set, replicate, sym, refl, ap, ◌∙◌, inl, inr, ⊎_elim, mul-le-mul_left, mul-suc, add-one, sub-one, arith, length-set, get_or-drop, get_or-set_other, get_or-take, get_or-set_same, set-set}
 use Rattle.std.proofs.lemmas.List.{set_comm, set-get_or}
 use Rattle.std.proofs.lemmas.Bool.{leb-true, or_cases, cases_lt, cases_eq}
-use Rattle.std.proofs.lemmas.List.{ext_get_or, get_or_append_left, get_or-append-add}
+use Rattle.std.proofs.lemmas.List.{ext_get_or, get_or_append_left, get_or-append-add, length-replicate, get_or-replicate, get_or_past}
 use Rattle.numbers.specs.Numbers.{num, put_num, nums}
 use Rattle.numbers.specs.Laws.{Apart}
 
@@ -142,9 +142,7 @@ num_zero (suc (suc n)) o x h =
     omega arith
 
 pub byte_zeros : (m k : ℕ) → get_or {A = ℕ} (replicate m 0) k 0 ≡ 0
-byte_zeros zero k = refl
-byte_zeros (suc m) zero = refl
-byte_zeros (suc m) (suc k) = byte_zeros m k
+byte_zeros m k = grind (arith, length-replicate, get_or-replicate, get_or_past)
 
 pub num_zeros : (n o m : ℕ) → num n o (replicate m 0) ≡ 0
 num_zeros n o m = num_zero n o (replicate m 0) (λ k l. byte_zeros m (o + k))

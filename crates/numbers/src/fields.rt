@@ -1,11 +1,12 @@
-ghost use Rattle.std.specs.Prelude.{◌≡◌, ℕ, ◌+◌, ◌*◌, ◌/◌, ◌%◌, ◌^◌, ◌<◌, ◌≤◌, length};
+ghost use Rattle.std.specs.Prelude.{◌≡◌, ◌+◌, ◌^◌, ◌<◌, ◌≤◌, length};
 ghost use Rattle.numbers.specs.Numbers.{num, put_num};
 
 // The number of `width` bytes at `at`, high byte first.
 pub fn get(b: &[u8], at: usize, width: usize) -> u32
     requires within { at + width ≤ length b.now }
     requires narrow { width ≤ 4 }
-    ensures { result ≡ num width at b.now }
+    ensures is { result ≡ num width at b.now }
+    ensures fits { result < 256 ^ width }
 {
     let mut v = 0;
     for byte in &b[at..at + width] {

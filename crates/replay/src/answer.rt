@@ -1,5 +1,6 @@
 use crate::findings::Findings;
 use fault::fault::Fault;
+use format::geometry::Geometry;
 use std::alloc::AllocError;
 use std::error::Error;
 use std::fmt;
@@ -17,7 +18,7 @@ pub enum Need {
 #[derive(Debug, Drop)]
 pub enum Answer {
     Done,
-    Sizes { isize: u32, fsize: u32 },
+    Sizes(Geometry),
     Checked(Verdict, Findings),
     Digest(u64),
     Digests([u64; 3]),
@@ -59,7 +60,7 @@ impl fmt::Display for Answer {
     fn fmt<W: fmt::Write>(&self, f: &mut fmt::Formatter<W>) -> fmt::Result {
         match self {
             Answer::Done => write!(f, "ok"),
-            Answer::Sizes { isize, fsize } => write!(f, "ok {isize} {fsize}"),
+            Answer::Sizes(sizes) => write!(f, "ok {} {}", sizes.isize(), sizes.fsize()),
             Answer::Checked(v, findings) => {
                 let Census {
                     used,

@@ -17,7 +17,7 @@ const SCRATCH_AT_START: usize = 66000;
 const FINDINGS_AT_START: usize = 32;
 
 // The buffers that a script lends, kept from call to call, and the room of the findings list.
-#[derive(Drop)]
+#[derive(Debug, Drop)]
 pub struct Buffers {
     // in the order of Lent
     bytes: [Vec<u8>; 3],

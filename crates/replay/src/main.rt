@@ -68,7 +68,7 @@ fn run<O: ByteOrder + Drop>(
     Ok(())
 }
 
-// Runs the lines for one disk of zeros.
+// Runs the lines for one disk of zeros. The order is a value here and a type below, so each has its arm.
 fn run_on_new_disk(
     rt: &(impl Print + AllocGlobal),
     order: Order,

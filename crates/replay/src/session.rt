@@ -19,7 +19,7 @@ use volume::make::make;
 type Pile<'d, O> = Meter<Fuse<Forwarder<Image<'d, O>>>>;
 
 // A disk on which lines of a script run, the volume held on it, and the buffers that are lent.
-#[derive(Drop)]
+#[derive(Debug, Drop)]
 pub struct Session<'a, 'd, O> {
     heap: Global,
     pile: Pile<'d, O>,
@@ -76,10 +76,7 @@ impl<'a, 'd, O: ByteOrder> Session<'a, 'd, O> {
         let volume = find(&self.pile)?;
         let sizes = volume.geometry();
         self.held = Some(Held::Found(volume));
-        Ok(Answer::Sizes {
-            isize: sizes.isize(),
-            fsize: sizes.fsize(),
-        })
+        Ok(Answer::Sizes(sizes))
     }
 
     fn check(&mut self) -> Result<Answer, Failure> {
@@ -107,8 +104,8 @@ impl<'a, 'd, O: ByteOrder> Session<'a, 'd, O> {
     }
 
     fn clear(&mut self) -> Result<Answer, Failure> {
-        let mut findings = self.lent.fresh_findings(self.heap)?;
         let volume = self.take_found()?;
+        let mut findings = self.lent.fresh_findings(self.heap)?;
         let scratch = self.lent.bytes_mut(Lent::Scratch);
         match volume.clear(&self.pile, scratch, findings.list.as_mut_slice()) {
             Ok(volume) => {

@@ -1,6 +1,5 @@
 -- The bytes that make writes: the first block of the i-list, the root's block and the bare superblock.
 use Rattle.std.proofs.Common.{◌≡◌, ℕ, zero, suc, ◌+◌, ◌-◌, ◌<◌, ◌≤◌, List, length, get_or, refl, ◌∙◌, inl, inr, ⊎_elim, arith, length-set, get_or-set_other}
-use Rattle.std.proofs.lemmas.List.{length-replicate}
 use Rattle.numbers.specs.Numbers.{num, put_num}
 use Rattle.numbers.specs.Laws.{Apart}
 use Rattle.numbers.proofs.Numbers.{put_length, num_put, num_apart, byte_apart, num_zeros, byte_zeros, apart}
@@ -9,13 +8,10 @@ use Rattle.format.specs.Superblock.{at_isize, at_fsize, at_tinode, at_magic, at_
 use Rattle.format.specs.Inode.{start_of_inode, slot_at, mode_of, size_of, address_of}
 use Rattle.format.specs.Sizes.{inodes_of}
 use Rattle.freelist.specs.Bytes.{zeros}
+use Rattle.freelist.proofs.Gives.{length_zeros}
 use Rattle.rules.specs.Make.{root, root_mode, root_size, root_list_block, list_block, root_block, bare_superblock}
 
 -- ZEROS
-pub length_zeros : (n : ℕ) → length (zeros n) ≡ n
-unfolding zeros
-length_zeros n = length-replicate {A = ℕ} n 0
-
 pub zeros_byte : (n k : ℕ) → get_or (zeros n) k 0 ≡ 0
 unfolding zeros
 zeros_byte n k = byte_zeros n k

@@ -1,6 +1,6 @@
 -- The files of a newly made volume: the root directory alone.
-use Rattle.std.proofs.Common.{◌≡◌, ℕ, zero, suc, ◌+◌, ◌-◌, ◌*◌, ◌/◌, ◌%◌, ◌<◌, ◌≤◌, Bool, true, false, cond, eqb, ltb, ◌≢◌, List, [], ◌∷◌, get_or, Some, None, sym, refl, ap, ◌∙◌, subst, inl, inr, ⊎_elim, arith}
-use Rattle.std.proofs.lemmas.Bool.{cases_eq, cases_lt, lt-ltb, le-ltb, le-leb, lt-leb, ne_eqb, and_from, and_left, and_right, cond-true, cond-false, cond_both}
+use Rattle.std.proofs.Common.{◌≡◌, ℕ, zero, suc, ◌+◌, ◌-◌, ◌*◌, ◌/◌, ◌%◌, ◌<◌, ◌≤◌, Bool, true, false, cond, eqb, ltb, ◌≢◌, List, [], get_or, Some, None, sym, refl, ap, ◌∙◌, subst, inl, inr, ⊎_elim, arith}
+use Rattle.std.proofs.lemmas.Bool.{cases_eq, cases_lt, le-ltb, le-leb, lt-leb, ne_eqb, and_from, and_left, and_right, cond-true, cond-false, cond_both}
 use Rattle.disk.specs.Medium.{Sectors}
 use Rattle.numbers.specs.Numbers.{num}
 use Rattle.format.specs.Layout.{block_bytes, table_width, inodes_per_block, inode_bytes, slots, direct_slots, depth_of}
@@ -8,21 +8,20 @@ use Rattle.format.specs.Inode.{start_of_inode, mode_of, size_of, address_of, typ
 use Rattle.format.specs.declared.inode.InodeType.TheVariants.{Unused, Directory}
 use Rattle.format.specs.Position.{positions, Split, split_of, slot_of, path_of, end_of_one, end_of_two}
 use Rattle.format.specs.Sizes.{Sizes, Bounds, inodes_of}
-use Rattle.trees.specs.Trees.{hit, named, reach, Absent}
+use Rattle.format.proofs.Splits.{in_direct}
+use Rattle.trees.specs.Trees.{hit, named, reach}
 use Rattle.trees.specs.Volume.{in_file, claims}
 use Rattle.trees.proofs.Sums.{total_zero, total_replace}
 use Rattle.trees.proofs.Names.{named_none}
+use Rattle.trees.proofs.Frames.{reach_none}
 use Rattle.verdict.specs.Sound.{inode_block, head, entry, claims_on}
+use Rattle.verdict.proofs.Sounds.{entry_absent}
 use Rattle.rules.specs.Make.{root, root_size, root_list_block, list_block, root_block}
 use Rattle.rules.specs.Files.{Same, Alike, block_bytes_at, address_at, stored, file_of, is_file, files_on, root_file, first_book}
 use Rattle.rules.proofs.Layouts.{zeros_byte, zeros_num, root_list_apart, root_mode_is, root_size_is, root_slot_0, root_slot_other, root_block_tail}
 use Rattle.rules.proofs.NewSectors.{Newly}
 
 -- POSITIONS
-split_direct : (p : ℕ) → p < direct_slots → split_of p ≡ (p, 0, 0, 0, 0)
-unfolding split_of
-split_direct p h = cond-true (ltb p direct_slots) _ _ (lt-ltb p direct_slots h)
-
 split_tables : (p : ℕ) → direct_slots ≤ p → (direct_slots ≤ slot_of p) × (slot_of p < slots)
 unfolding split_of
 split_tables p h =
@@ -30,16 +29,6 @@ split_tables p h =
     (cond_both (ltb p end_of_one) _ _ (λ (q : Split). (direct_slots ≤ q.0) × (q.0 < slots))
     (λ e. (omega arith, omega arith))
     (λ e. cond_both (ltb p end_of_two) _ _ (λ (q : Split). (direct_slots ≤ q.0) × (q.0 < slots)) (λ f. (omega arith, omega arith)) (λ f. (omega arith, omega arith))))
-
--- nothing is reached from the absent address
-reach_none : (at : ℕ → ℕ → ℕ) → Absent at → (is : List ℕ) → reach at is 0 ≡ 0
-unfolding reach
-reach_none at z [] = refl
-reach_none at z (i ∷ is) = ap (reach at is) (z i) ∙ reach_none at z is
-
-absent : (T : Sectors) → Absent (entry T)
-unfolding entry
-absent T k = refl
 
 -- INODES
 module _ (isize fsize : ℕ) (bounds : Bounds isize fsize) (T : Sectors) (new : Newly isize fsize T) where
@@ -107,13 +96,13 @@ module _ (isize fsize : ℕ) (bounds : Bounds isize fsize) (T : Sectors) (new : 
   unfolding in_file
   unused_claims k b l ne =
       total_zero slots (λ s. named table_width (entry T) (depth_of s) (head T (suc k) s) b)
-      (λ s h. ap (λ (a : ℕ). named table_width (entry T) (depth_of s) a b) (unused_head (suc k) s (omega arith) l (omega arith)) ∙ named_none table_width (entry T) (absent T) (depth_of s) b)
+      (λ s h. ap (λ (a : ℕ). named table_width (entry T) (depth_of s) a b) (unused_head (suc k) s (omega arith) l (omega arith)) ∙ named_none table_width (entry T) (entry_absent T) (depth_of s) b)
 
   root_claims : (b : ℕ) → in_file table_width (entry T) depth_of slots (head T root) b ≡ hit isize b
   unfolding in_file named
   root_claims b =
       let r = total_replace slots (λ s. named table_width (entry T) (depth_of s) (head T root s) b) (λ s. 0) 0 (omega arith)
-      (λ s l ne. ap (λ (a : ℕ). named table_width (entry T) (depth_of s) a b) (root_head_other s (omega arith)) ∙ named_none table_width (entry T) (absent T) (depth_of s) b) in
+      (λ s l ne. ap (λ (a : ℕ). named table_width (entry T) (depth_of s) a b) (root_head_other s (omega arith)) ∙ named_none table_width (entry T) (entry_absent T) (depth_of s) b) in
       let z = total_zero slots (λ s. 0) (λ s l. refl) in
       let e : named table_width (entry T) (depth_of 0) (head T root 0) b ≡ hit isize b = ap (λ (a : ℕ). hit a b) root_head_0 in
       omega arith
@@ -139,7 +128,7 @@ module _ (isize fsize : ℕ) (bounds : Bounds isize fsize) (T : Sectors) (new : 
   nothing_stored : (i p k : ℕ) → head T i (slot_of p) ≡ 0 → get_or (stored T i p) k 0 ≡ 0
   unfolding address_at block_bytes_at
   nothing_stored i p k e =
-      let a : address_at T i p ≡ 0 = ap (reach (entry T) (path_of p)) e ∙ reach_none (entry T) (absent T) (path_of p) in
+      let a : address_at T i p ≡ 0 = ap (reach (entry T) (path_of p)) e ∙ reach_none (entry T) (entry_absent T) (path_of p) in
       ap (λ (b : ℕ). get_or (block_bytes_at T b) k 0) a ∙ zeros_byte block_bytes k
 
   block_there : (b : ℕ) → 0 < b → block_bytes_at T b ≡ get_or T b []
@@ -169,7 +158,7 @@ module _ (isize fsize : ℕ) (bounds : Bounds isize fsize) (T : Sectors) (new : 
           (λ (ne : p ≡ 0 → ⊥).
           nothing_stored root p k
           (root_head_other (slot_of p)
-          (⊎_elim (λ (d : p < direct_slots). let f = ap (λ (x : Split). x.0) (split_direct p d) in omega arith) (λ (d : direct_slots ≤ p). let f = split_tables p d in omega arith) (cases_lt p direct_slots))))
+          (⊎_elim (λ (d : p < direct_slots). let f = ap (λ (x : Split). x.0) (in_direct p d) in omega arith) (λ (d : direct_slots ≤ p). let f = split_tables p d in omega arith) (cases_lt p direct_slots))))
           (cases_eq p 0)
 
   -- THE BOOK

@@ -1,5 +1,6 @@
 -- A scan that keeps what the caller's list shows of the findings, beside one that keeps them all.
-use Rattle.std.proofs.Common.{◌≡◌, ℕ, suc, ◌+◌, Bool, true, false, cond, ltb, List, [], ◌∷◌, ◌++◌, length, set, replicate, sym, refl, ap, ◌∙◌, arith, length-append, lt-ltb}
+use Rattle.std.proofs.Common.{◌≡◌, ℕ, suc, Bool, true, false, cond, ltb, List, [], ◌∷◌, ◌++◌, length, set, replicate, sym, refl, ap, ◌∙◌, arith, lt-ltb}
+use Rattle.std.proofs.lemmas.List.{length_push}
 use Prim.Native.Nat.compare
 use Rattle.std.specs.Int.Bits.{bit_or}
 use Rattle.disk.specs.Medium.{Sectors}
@@ -41,9 +42,6 @@ bits_more : (b : ℕ) (fs : List Finding) (f : Finding) → bits_from b (fs ++ f
 bits_more b [] f = refl
 bits_more b (g ∷ fs) f = bits_more (bit_or b (status_bit g.kind)) fs f
 
-length_more : (fs : List Finding) (f : Finding) → length (fs ++ f ∷ []) ≡ length fs + 1
-length_more fs f = length-append fs (f ∷ [])
-
 -- what a list that held os shows of the findings fs
 abbrev pub shown_of : List Finding → List Finding → Log
 shown_of os fs = shown (kept os fs) (length fs) (bits_from 0 fs)
@@ -56,7 +54,7 @@ pub record Shows (os : List Finding) (s t : Scan) : Type 0 where
 
 module _ (os : List Finding) where
   push_shown : (fs : List Finding) (f : Finding) → push (shown_of os fs) f ≡ shown_of os (fs ++ f ∷ [])
-  push_shown fs f = let a = kept_more os fs f in let b = length_more fs f in let c = bits_more 0 fs f in cc
+  push_shown fs f = let a = kept_more os fs f in let b = length_push fs f in let c = bits_more 0 fs f in cc
 
   push_all : (x : Log) (f : Finding) → x ≡ all (findings_in x) → push x f ≡ all (findings_in x ++ f ∷ [])
   push_all x f e = ap (λ (y : Log). push y f) e

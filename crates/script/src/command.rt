@@ -1,4 +1,4 @@
-ghost use Rattle.std.specs.Prelude.{◌≡◌, ℕ, ◌<◌, ◌≤◌, slice_index, slice_index_or, length, vec_len, map, IfOk, IfSome, IfNone};
+ghost use Rattle.std.specs.Prelude.{◌≡◌, ℕ, ◌<◌, slice_index, slice_index_or, length, vec_len, IfOk, IfSome, IfNone};
 ghost use Rattle.script.specs.Words.{Names, AreTokensOf, pieces};
 ghost use Rattle.script.specs.Commands.{order_word, lent_word, call_word, chore_word, call_tokens, chore_tokens, command_tokens, IsBounded, IsBoundedChore};
 ghost use Rattle.script.specs.declared.command.Call.{Call};
@@ -69,6 +69,7 @@ pub enum Command {
 }
 
 // Why a line gives no command: the memory ran out, or the line asks for nothing that there is.
+// No Hash, as AllocError has none.
 #[derive(Clone, Copy, Debug, PartialEq, Eq)]
 pub enum LineError {
     Memory(AllocError),

@@ -28,7 +28,7 @@ pub fn digest(bytes: &[u8]) -> u64
     with_bytes(START, bytes)
 }
 
-// The digest of all sectors of a disk, in order.
+// The digest of all sectors of a disk, in order. A loop, since a closure would need a clause for what `get` asks.
 pub fn disk_digest<D: Disk>(d: &D) -> u64
     ensures { result ≡ fnv_sectors fnv_start (D.Disk.medium d.now).sectors }
 {

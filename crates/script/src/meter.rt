@@ -1,4 +1,4 @@
-ghost use Rattle.std.specs.Prelude.{◌≡◌, ℕ, ◌+◌, ◌-◌, ◌^◌, min, List, [], ◌∷◌, length, if◌then◌else◌};
+ghost use Rattle.std.specs.Prelude.{◌≡◌, ◌+◌, ◌-◌, ◌^◌, min, [], ◌∷◌, length, if◌then◌else◌};
 ghost use Rattle.disk.specs.Medium.{ran};
 ghost use Rattle.disk.specs.Disks.{serves, answer};
 
@@ -6,7 +6,7 @@ use disk::disk::Disk;
 use fault::fault::Fault;
 
 // A disk that counts the writes asked of it; all else is as below.
-#[derive(Drop)]
+#[derive(Clone, Debug, PartialEq, Eq, Hash, Drop)]
 pub struct Meter<D> {
     pub below: D,
     asked: u64,

@@ -1,4 +1,4 @@
-ghost use Rattle.std.specs.Prelude.{◌≡◌, ℕ, ◌<◌, List, [], ◌∷◌, length, set, if◌then◌else◌, nat_lt, slice_index_or, slice_set, ◌↔◌, IsSome, IfSome};
+ghost use Rattle.std.specs.Prelude.{◌≡◌, ◌<◌, [], ◌∷◌, length, if◌then◌else◌, nat_lt, slice_index_or, slice_set, ◌↔◌, IsSome, IfSome};
 ghost use Rattle.disk.specs.Medium.{ran, sector_bytes};
 ghost use Rattle.disk.specs.Disks.{answer};
 

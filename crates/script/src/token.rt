@@ -1,4 +1,4 @@
-ghost use Rattle.std.specs.Prelude.{◌≡◌, ℕ, ◌-◌, ◌≤◌, Some, SomeIff};
+ghost use Rattle.std.specs.Prelude.{◌≡◌, ◌-◌, ◌≤◌, Some, SomeIff};
 ghost use Rattle.script.specs.Numbers.{script_number};
 ghost use Rattle.script.specs.Words.{word_text, Names, Reads};
 

@@ -1,7 +1,7 @@
 ghost use Rattle.std.specs.Prelude.{◌≡◌};
 ghost use Rattle.tally.specs.Claims.{code_of_claim, claimant_of, bad_of, again_of};
 
-use fault::finding::Kind;
+use fault::finding::{Finding, Kind};
 use fault::place::Place;
 
 // Who claims a block: a file, or the free list, which lists it.
@@ -61,4 +61,17 @@ impl Claimant {
 pub struct Claim {
     pub by: Claimant,
     pub place: Place,
+}
+
+impl Claim {
+    // A finding of this claim.
+    pub fn finding(self, kind: Kind, address: u32) -> Finding
+        ensures { result ≡ record { kind = kind; address = address; place = self.place } }
+    {
+        Finding {
+            kind,
+            address,
+            place: self.place,
+        }
+    }
 }

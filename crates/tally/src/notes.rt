@@ -1,18 +1,17 @@
-ghost use Rattle.std.specs.Prelude.{◌≡◌, ◌+◌, ◌^◌, ◌<◌, false, length, slice_index, if◌then◌else◌};
+ghost use Rattle.std.specs.Prelude.{◌≡◌, ◌+◌, ◌^◌, ◌<◌, length, slice_index, if◌then◌else◌};
 ghost use Rattle.verdict.specs.Scan.{note, met, opens};
 ghost use Rattle.verdict.specs.Verdict.{verdict_from};
 ghost use Rattle.tally.specs.Claims.{code_of_claim, bad_of, again_of};
 
 use crate::claim::{Claim, Claimant};
 use disk::disk::Disk;
-use fault::finding::{Finding, Kind};
-use fault::place::Place;
+use fault::finding::Finding;
 use fault::status::Status;
 use format::on_disk::OnDisk;
 use verdict::verdict::{Census, Verdict};
 
 // What a check notes: the code of each block, the first findings in the caller's list, the number of all findings, and the status of their kinds.
-#[derive(Drop)]
+#[derive(Debug, Drop)]
 pub struct Notes<'a, D: Disk> {
     pub volume: &'a OnDisk<'a, D>,
     pub codes: &'a mut [u8],
@@ -55,6 +54,7 @@ impl<'a, D: Disk> Notes<'a, D> {
         ensures count { self.new.count ≡ self.old.count + 1 }
         ensures same { SameLists self.old self.new }
     {
+        // An index: after `get_mut` the list that both arms leave is not told apart, and the clause on it stays open.
         let at = self.count as usize;
         if at < self.findings.len() {
             self.findings[at] = finding;
@@ -71,22 +71,6 @@ impl<'a, D: Disk> Notes<'a, D> {
         self.codes[block as usize]
     }
 
-    // Notes an address that cannot be claimed, which is what `meet` then answers.
-    fn refuse(&mut self, kind: Kind, address: u32, place: Place) -> bool
-        requires { self.old.count + 1 < 2 ^ 32 }
-        ensures refused { result ≡ false }
-        ensures scan { scan_of self.new ≡ note kind address place (scan_of self.old) }
-        ensures count { self.new.count ≡ self.old.count + 1 }
-        ensures same { SameLists self.old self.new }
-    {
-        self.note(Finding {
-            kind,
-            address,
-            place,
-        });
-        false
-    }
-
     // Claims a data block that nothing has claimed; any other address is a finding. Says whether it claimed: a finding is noted and no error, since the walk goes on.
     pub fn meet(&mut self, claim: Claim, address: u32) -> bool
         requires { self.old.count + 1 < 2 ^ 32 }
@@ -96,12 +80,13 @@ impl<'a, D: Disk> Notes<'a, D> {
         ensures count { self.new.count + (if result then 1 else 0) ≡ self.old.count + 1 }
         ensures same { SameLists self.old self.new }
     {
-        let sizes = self.volume.sizes();
-        if !(sizes.isize()..sizes.fsize()).contains(&address) {
-            return self.refuse(claim.by.bad(), address, claim.place);
+        if !self.volume.sizes().data_blocks().contains(&address) {
+            self.note(claim.finding(claim.by.bad(), address));
+            return false;
         }
         if Claimant::of(self.code(address)).is_some() {
-            return self.refuse(claim.by.again(), address, claim.place);
+            self.note(claim.finding(claim.by.again(), address));
+            return false;
         }
         self.codes[address as usize] = u8::from(claim.by);
         true

@@ -1,9 +1,11 @@
 -- The verdict says what claims there are.
-use Rattle.std.proofs.Common.{◌≡◌, ℕ, zero, suc, ◌+◌, ◌*◌, ◌<◌, ◌≤◌, Bool, true, false, cond, leb, ◌⊎◌, List, [], ◌∷◌, length, get_or, replicate, sym, refl, ap, ◌∙◌, inl, inr, ⊎_elim, arith}
+use Rattle.std.proofs.Common.{◌≡◌, ℕ, suc, ◌+◌, ◌*◌, ◌<◌, ◌≤◌, Bool, true, false, cond, leb, ◌⊎◌, List, [], length, get_or, sym, refl, ap, ◌∙◌, inl, inr, ⊎_elim, arith}
 use Rattle.std.proofs.lemmas.Bool.{cases_lt, le-leb, cond-true}
 use Rattle.std.proofs.lemmas.Bool.Decides.{nat_tests}
+use Rattle.std.proofs.lemmas.List.{length-replicate, nil_from_length}
 use Rattle.fault.specs.declared.finding.Finding.{Finding}
 use Rattle.disk.specs.Medium.{Sectors}
+use Rattle.numbers.proofs.Numbers.{byte_zeros}
 use Rattle.format.specs.Layout.{table_width, superblock, slots, depth_of}
 use Rattle.format.specs.Inode.{inode_type, known_type}
 use Rattle.format.specs.Sizes.{Bounds, inodes_of}
@@ -27,29 +29,16 @@ use Rattle.verdict.proofs.Chains.{free_list_keep, list_walked, list_told, lists_
 use Rattle.verdict.proofs.Bits.{status, status_none, status_missing, zero_clean, eight_clean, zero_full}
 use Rattle.verdict.proofs.Surveys.{if_used, if_free, survey_used, survey_free, survey_missing, survey_covers}
 
-entry_absent : (S : Sectors) → Absent (entry S)
+pub entry_absent : (S : Sectors) → Absent (entry S)
 unfolding entry
 entry_absent S k = refl
 
-blank_long : (n : ℕ) → length (replicate {A = ℕ} n 0) ≡ n
-blank_long zero = refl
-blank_long (suc n) = ap suc (blank_long n)
-
-blank_none : (n b : ℕ) → get_or {A = ℕ} (replicate n 0) b 0 ≡ 0
-blank_none zero b = refl
-blank_none (suc n) zero = refl
-blank_none (suc n) (suc b) = blank_none n b
-
 blank_is : (hi : ℕ) → Blank hi (seen (blank hi))
-blank_is hi = record { long = omega (arith, blank_long hi); none = λ b. blank_none hi b; clean = refl }
+blank_is hi = record { long = omega (arith, length-replicate {A = ℕ} hi 0); none = λ b. byte_zeros hi b; clean = refl }
 
 whole_found : (l : Log) → whole l ≡ true → length (findings_in l) ≡ found_in l
 whole_found (all fs) e = refl
 whole_found (shown l n b) e = absurd (let z : ◌≡◌ {A = ℕ} 0 1 = cc in omega arith)
-
-nil : (fs : List Finding) → length fs ≡ 0 → fs ≡ []
-nil [] e = refl
-nil (f ∷ fs) e = absurd (omega arith)
 
 -- a code of claims k of files and l of the list
 if_used_is : (c k l : ℕ) → c ≡ k + 2 * l → k + l ≤ 1 → if_used c ≡ k
@@ -76,7 +65,7 @@ module _ (S : Sectors) (lo hi : ℕ) (bounds : Bounds lo hi) where
   pos = omega (arith, bounds.low)
 
   filed_long : hi ≤ length filed.codes
-  filed_long = omega (arith, blank_long hi, files_keep S lo hi (λ t. length t.codes ≡ length (blank hi).codes) (keeps_length (length (blank hi).codes)) (blank hi) refl)
+  filed_long = omega (arith, length-replicate {A = ℕ} hi 0, files_keep S lo hi (λ t. length t.codes ≡ length (blank hi).codes) (keeps_length (length (blank hi).codes)) (blank hi) refl)
 
   end_whole : whole end.log ≡ true
   end_whole = free_list_keep lo hi (λ t. whole t.log ≡ true) keeps_whole S filed (files_keep S lo hi (λ t. whole t.log ≡ true) keeps_whole (blank hi) refl)
@@ -169,7 +158,7 @@ module _ (S : Sectors) (lo hi : ℕ) (bounds : Bounds lo hi) where
   status_is room = refl
 
   clean_nil : found_in end.log ≡ 0 → findings_in end.log ≡ []
-  clean_nil e = nil (findings_in end.log) (whole_found end.log end_whole ∙ e)
+  clean_nil e = nil_from_length (findings_in end.log) (whole_found end.log end_whole ∙ e)
 
   status_clean : (room : ℕ) → found_in end.log ≡ 0 → (verdict_of S lo hi room).status ≡ status [] census room
   status_clean room e = status_is room ∙ ap (λ (fs : List Finding). status fs census room) (clean_nil e)
@@ -272,7 +261,7 @@ module _ (S : Sectors) (lo hi : ℕ) (bounds : Bounds lo hi) where
       ((λ b q. h.addresses b (let i = claims_is b in omega arith)), λ b. let i = claims_is b in omega (arith, h.most b))
 
   files_clean : FilesLawful S lo hi → findings_in filed.log ≡ []
-  files_clean h = nil (findings_in filed.log) (whole_found filed.log filed_whole ∙ ap (λ (c : Count). c.found) (files_seen S lo hi h.types (blank hi)) ∙ lawful_counts h)
+  files_clean h = nil_from_length (findings_in filed.log) (whole_found filed.log filed_whole ∙ ap (λ (c : Count). c.found) (files_seen S lo hi h.types (blank hi)) ∙ lawful_counts h)
 
   files_codes : FilesLawful S lo hi → (b : ℕ) → get_or filed.codes b 0 ≡ claims_on S lo b
   files_codes h b =
@@ -281,7 +270,7 @@ module _ (S : Sectors) (lo hi : ℕ) (bounds : Bounds lo hi) where
       ∙ sym (claims_is b)
 
 filed_length : (S : Sectors) (lo hi : ℕ) → length (files_of S lo hi).codes ≡ hi
-filed_length S lo hi = files_keep S lo hi (λ t. length t.codes ≡ hi) (keeps_length hi) (blank hi) (blank_long hi)
+filed_length S lo hi = files_keep S lo hi (λ t. length t.codes ≡ hi) (keeps_length hi) (blank hi) (length-replicate {A = ℕ} hi 0)
 
 pub one_code : OneCodeForEachBlock
 unfolding report

@@ -1,10 +1,10 @@
 -- What make answers, by its tests.
-use Rattle.std.proofs.Common.{◌≡◌, ℕ, ◌-◌, true, false, eqb, leb, List, sym}
+use Rattle.std.proofs.Common.{◌≡◌, ℕ, ◌-◌, true, false, eqb, leb, List, length, sym, ap, ◌∙◌}
 use Rattle.fault.specs.declared.refusal.Refusal.TheVariants.{BufferSize, MakeSizes}
 use Rattle.fault.specs.declared.fault.Fault.{Fault}
 use Rattle.fault.specs.Refusals.{beyond, keeper}
-use Rattle.disk.specs.Medium.{Medium, ran}
-use Rattle.disk.proofs.Writes.{ran_none}
+use Rattle.disk.specs.Medium.{Medium, Write, ran}
+use Rattle.disk.proofs.Writes.{length_ran, ran_none}
 use Rattle.format.specs.Layout.{block_bytes}
 use Rattle.format.specs.Sizes.{lawful_sizes}
 use Rattle.rules.specs.Calls.{Answer, done, refused}
@@ -21,6 +21,10 @@ bad_buffer i f b n p q r = rw (p, q, r)
 
 pub accepted_make : (i f b n : ℕ) → lawful_sizes i f ≡ true → leb f n ≡ true → eqb b block_bytes ≡ true → make_answer i f b n ≡ done
 accepted_make i f b n p q r = rw (p, q, r)
+
+-- writes keep the number of sectors
+pub same_length : (W : List Write) (m m₁ : Medium) → m₁ ≡ ran W m → length m₁.sectors ≡ length m.sectors
+same_length W m m₁ e = ap (λ (x : Medium). length x.sectors) e ∙ length_ran W m
 
 -- a refused make writes nothing and leaves the buffer
 pub refused_writes : (i f : ℕ) (a : Answer) (e : Fault) (m : Medium) → a ≡ refused e → m ≡ ran (make_by i f a) m

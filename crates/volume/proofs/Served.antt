@@ -1,6 +1,6 @@
 -- What the tests before a check answer.
 use Rattle.std.proofs.Common.{◌≡◌, ℕ, ◌<◌, ◌≤◌, Bool, true, false, not, ◌&&◌, eqb, ltb, leb, List, [], length, get_or, Ok, Err, Result, sym, refl, ap, ⊎_elim, arith, ltb-true, eqb-true, leb-true}
-use Rattle.std.proofs.lemmas.Bool.{cases_Bool}
+use Rattle.std.proofs.lemmas.Bool.{cases_Bool, and_parts}
 use Rattle.fault.specs.declared.fault.Fault.{Fault}
 use Rattle.fault.specs.declared.refusal.Refusal.TheVariants.{BufferSize, NoVolume, OtherSizes, Locked}
 use Rattle.fault.specs.Refusals.{beyond, keeper}
@@ -10,13 +10,9 @@ use Rattle.format.specs.Superblock.{isize_of, fsize_of, type_fits, flock_of}
 use Rattle.format.specs.Sizes.{Sizes, lawful_sizes}
 use Rattle.rules.specs.Calls.{is_volume, sizes_in, lookup, same_sizes, may_check, may_clear}
 
-and_right : (a b : Bool) → (a && b) ≡ true → b ≡ true
-and_right true b e = e
-and_right false b e = let z : b ≡ true = cc in z
-
 pub fits_within : (x : List ℕ) (n : ℕ) → is_volume x n ≡ true → fsize_of x ≤ n
 unfolding is_volume
-fits_within x n e = leb-true (fsize_of x) n (and_right (lawful_sizes (isize_of x) (fsize_of x) && type_fits x) (leb (fsize_of x) n) e)
+fits_within x n e = leb-true (fsize_of x) n (and_parts (lawful_sizes (isize_of x) (fsize_of x) && type_fits x) (leb (fsize_of x) n) e).1
 
 -- a volume that is found has a superblock and fits its disk
 pub found_fits : (S : Sectors) (z : Sizes) → Ok z ≡ lookup S → (superblock < length S) × (z.fsize ≤ length S)
@@ -69,14 +65,10 @@ not_false false e = let z : ◌≡◌ {A = ℕ} 0 1 = cc in absurd (omega arith)
 
 pub the_same : (z w : Sizes) → same_sizes z w ≡ true → z ≡ w
 the_same z w e =
-    let a : z.isize ≡ w.isize = eqb-true z.isize w.isize (and_left (eqb z.isize w.isize) (eqb z.fsize w.fsize) e) in
-    let b : z.fsize ≡ w.fsize = eqb-true z.fsize w.fsize (and_right (eqb z.isize w.isize) (eqb z.fsize w.fsize) e) in
+    let a : z.isize ≡ w.isize = eqb-true z.isize w.isize (and_parts (eqb z.isize w.isize) (eqb z.fsize w.fsize) e).0 in
+    let b : z.fsize ≡ w.fsize = eqb-true z.fsize w.fsize (and_parts (eqb z.isize w.isize) (eqb z.fsize w.fsize) e).1 in
     let k : ◌≡◌ {A = Sizes} (record { isize = z.isize; fsize = z.fsize }) (record { isize = w.isize; fsize = w.fsize }) = cc in
     k
-  where
-    and_left : (a b : Bool) → (a && b) ≡ true → a ≡ true
-    and_left true b e = refl
-    and_left false b e = e
 
 module _ (S : Sectors) (held : Sizes) (n : ℕ) where
   pub refused_check : (f : Fault) → Err f ≡ may_check held n S → Err f ≡ may_clear held n S

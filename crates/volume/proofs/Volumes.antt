@@ -10,12 +10,6 @@ use Rattle.format.specs.Superblock.{isize_of, fsize_of, type_fits}
 use Rattle.format.specs.Sizes.{Sizes, lawful_sizes}
 use Rattle.rules.specs.Calls.{is_volume, sizes_in, lookup}
 
-pub if_false : {A : Type 0} (b : Bool) (x y z : A) → b ≡ false → z ≡ y → z ≡ cond b x y
-if_false b x y z e h = rw e h
-
-pub if_true : {A : Type 0} (b : Bool) (x y z : A) → b ≡ true → z ≡ x → z ≡ cond b x y
-if_true b x y z e h = rw e h
-
 pub volume_by : (x : List ℕ) (n : ℕ) (a b c : Bool) → lawful_sizes (isize_of x) (fsize_of x) ≡ a → type_fits x ≡ b → leb (fsize_of x) n ≡ c → is_volume x n ≡ ((a && b) && c)
 unfolding is_volume
 volume_by x n a b c p q r = rw (p, q, r)

@@ -1,4 +1,4 @@
-ghost use Rattle.std.specs.Prelude.{◌≡◌, ℕ, ◌<◌, ◌≤◌, List, [], length, IfOk, OnOk, slice_index_or};
+ghost use Rattle.std.specs.Prelude.{◌≡◌, ◌≤◌, [], length, IfOk, OnOk, slice_index_or};
 ghost use Rattle.format.specs.Layout.{superblock};
 ghost use Rattle.rules.specs.Calls.{may_check, check_answer, scratch_after, findings_after};
 ghost use Rattle.rules.specs.Runs.{check as check_call};

@@ -1,4 +1,4 @@
-ghost use Rattle.std.specs.Prelude.{◌≡◌, ℕ, ◌<◌, ◌≤◌, List, [], length, IfOk};
+ghost use Rattle.std.specs.Prelude.{◌≡◌, ◌≤◌, length, IfOk};
 ghost use Rattle.rules.specs.Calls.{may_clear, clear_answer, scratch_after, findings_after};
 ghost use Rattle.rules.specs.Runs.{clear as clear_call};
 ghost use Rattle.rules.specs.Promises.{CarriesOn};

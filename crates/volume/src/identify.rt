@@ -1,4 +1,4 @@
-ghost use Rattle.std.specs.Prelude.{◌≡◌, ℕ, ◌<◌, ◌≤◌, List, [], length, IfOk, if◌then◌else◌, Ok, Err, slice_index_or};
+ghost use Rattle.std.specs.Prelude.{◌≡◌, ◌<◌, [], length, IfOk, if◌then◌else◌, Ok, Err, slice_index_or};
 ghost use Rattle.fault.specs.declared.refusal.Refusal.TheVariants.{NoVolume};
 ghost use Rattle.format.specs.Layout.{superblock};
 ghost use Rattle.rules.specs.Calls.{is_volume, sizes_in, lookup};
@@ -25,7 +25,7 @@ fn identify(sb: &Block, n: usize) -> Result<Geometry, Refusal>
     }
 }
 
-// The volume on a disk; its superblock is left in sb.
+// The volume on a disk; its superblock is left in sb, for the one caller in three that reads it: an answer of both would be a pair that the others take apart.
 pub(crate) fn look_up<'d, D: Disk>(d: &'d D, sb: &mut Block) -> Result<OnDisk<'d, D>, Fault>
     ensures answer { looked_up result ≡ lookup (D.Disk.medium d.now).sectors }
     ensures there { IfOk result (λ v. v.sectors ≡ (D.Disk.medium d.now).sectors) }

@@ -1,4 +1,4 @@
-ghost use Rattle.std.specs.Prelude.{◌≡◌, ℕ, ◌+◌, ◌-◌, ◌<◌, ◌≤◌, List, [], ◌∷◌, ◌++◌, length, replicate};
+ghost use Rattle.std.specs.Prelude.{◌≡◌, ◌+◌, ◌-◌, ◌<◌, ◌≤◌, [], ◌∷◌, ◌++◌, length};
 ghost use Rattle.disk.specs.Medium.{ran};
 ghost use Rattle.format.specs.Layout.{superblock, first_list_block};
 ghost use Rattle.rules.specs.Make.{root_list_block, list_block, list_writes, root_block, bare_superblock, new_list, make_writes, make_answer, make_rule, make_buffer};
@@ -47,6 +47,7 @@ fn root_list_block(isize: u32) -> Block
 }
 
 // The root's block: its two cards, of one dot and of two, and else zeros. A function over a name would need a loop and a definition for it.
+#[tactic(auto, unfolding(rules::specs::Make::root_block, freelist::specs::Bytes::zeros))]
 fn root_block() -> Block
     ensures { result ≡ root_block }
 {
@@ -60,6 +61,7 @@ fn root_block() -> Block
 }
 
 // The superblock before any block is listed: sizes, unused inodes, magic number and type, and else zeros.
+#[tactic(auto, unfolding(rules::specs::Make::bare_superblock, freelist::specs::Bytes::zeros))]
 fn bare_superblock(sizes: Geometry) -> Block
     ensures { result ≡ bare_superblock sizes.isize sizes.fsize }
 {
@@ -84,7 +86,7 @@ fn list_block(isize: u32, n: usize) -> Block
     }
 }
 
-// Writes the i-list, the lowest block first.
+// Writes the i-list, the lowest block first. Its blocks are numbered from 0, as in the definition of what is written.
 fn write_list<D: Disk>(d: &mut D, sizes: Geometry)
     requires { sizes.fsize ≤ length (D.Disk.medium d.old).sectors }
     ensures { D.Disk.medium d.new ≡ ran (list_writes sizes.isize (sizes.isize - first_list_block)) (D.Disk.medium d.old) }

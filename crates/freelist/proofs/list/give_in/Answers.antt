@@ -16,7 +16,7 @@ returns g c =
     elim c.if-n-eq0.branch [
       | then-n-eq0 w ↦ w.n-is ∙ sym (index_none (nfree_of s) (omega arith))
       | else-n-eq0+then-n-eq-LIST_ROOM w ↦ w.n-is ∙ sym (index_full (nfree_of s) (omega arith))
-      | else-n-eq0+else-n-eq-LIST_ROOM w ↦ w.n-is ∙ c.get-n.ensures ∙ sym (index_room (nfree_of s) (omega arith) (omega arith))
+      | else-n-eq0+else-n-eq-LIST_ROOM w ↦ w.n-is ∙ c.get-n.ensures.is ∙ sym (index_room (nfree_of s) (omega arith) (omega arith))
     ] in
     let q : c.if-n-eq0.sb ≡ grounded c.args.sb.now =
     elim c.if-n-eq0.branch [

@@ -20,7 +20,7 @@ pub returns-then-block-eq0 : goal.returns-then-block-eq0
 returns-then-block-eq0 g c =
     let n : nfree_of c.args.sb.now ≡ 1 = omega arith in
     let i : c.get-n.result - 1 ≡ 0 = omega arith in
-    let f = c.get-block.ensures in
+    let f = c.get-block.ensures.is in
     let j : free_of (c.get-n.result - 1) c.args.sb.now ≡ free_of 0 c.args.sb.now = ap (λ (k : ℕ). free_of k c.args.sb.now) i in
     let z : free_of 0 c.args.sb.now ≡ 0 = omega arith in
     let e = ends _ _ c.args.sb.now (take_end c.args.volume.now.sizes.isize c.args.volume.now.sizes.fsize c.args.volume.now.sectors c.args.member c.args.sb.now n z) in
@@ -28,7 +28,7 @@ returns-then-block-eq0 g c =
 
 pub returns-then-not-is_data : goal.returns-then-not-is_data
 returns-then-not-is_data g c =
-    let f : c.get-block.result ≡ free_of (nfree_of c.args.sb.now - 1) c.args.sb.now = c.get-block.ensures ∙ ap (λ (k : ℕ). free_of (k - 1) c.args.sb.now) c.get-n.ensures in
+    let f : c.get-block.result ≡ free_of (nfree_of c.args.sb.now - 1) c.args.sb.now = c.get-block.ensures.is ∙ ap (λ (k : ℕ). free_of (k - 1) c.args.sb.now) c.get-n.ensures.is in
     let z : nfree_of c.args.sb.now ≡ 1 → c.get-block.result ≡ 0 → ⊥ =
     λ h y. elim c.else-n-eq1.branch [ else-n-eq1-via-then-n-eq1+else-block-eq0 w ↦ omega arith | else-n-eq1-via-else-n-eq1 w ↦ omega arith ] in
     let e =
@@ -44,13 +44,13 @@ returns-then-n-eq1-2 g c =
     let e =
     ends_by _ _ c.args.sb.now c.load_member.new.sb c.load_member.result
     (take_member_block c.args.volume.now.sizes.isize c.args.volume.now.sizes.fsize c.args.volume.now.sectors c.args.member c.args.sb.now c.get-block.result c.get-n.result
-    c.get-n.ensures c.if-n-eq1-2.true c.get-block.ensures z (rw (c.sizes.ensures.isize, c.sizes.ensures.fsize) at c.if-not-is_data.ensures))
+    c.get-n.ensures.is c.if-n-eq1-2.true c.get-block.ensures.is z (rw (c.sizes.ensures.isize, c.sizes.ensures.fsize) at c.if-not-is_data.ensures))
     c.load_member.ensures.result c.load_member.ensures.buffer in
     record { result = e.0; buffer = e.1 }
 
 pub returns : goal.returns
 returns g c =
-    let f : c.get-block.result ≡ free_of (nfree_of c.args.sb.now - 1) c.args.sb.now = c.get-block.ensures ∙ ap (λ (k : ℕ). free_of (k - 1) c.args.sb.now) c.get-n.ensures in
+    let f : c.get-block.result ≡ free_of (nfree_of c.args.sb.now - 1) c.args.sb.now = c.get-block.ensures.is ∙ ap (λ (k : ℕ). free_of (k - 1) c.args.sb.now) c.get-n.ensures.is in
     let e =
     ends _ _ c.args.sb.now
     (take_last c.args.volume.now.sizes.isize c.args.volume.now.sizes.fsize c.args.volume.now.sectors c.args.member c.args.sb.now c.get-block.result
@@ -60,6 +60,6 @@ returns g c =
       buffer =
           c.lower_total.ensures
           ∙ ap lowered c.put.ensures
-          ∙ ap (λ (k : ℕ). lowered (put_num 2 at_nfree (k - 1) c.args.sb.now)) c.get-n.ensures
+          ∙ ap (λ (k : ℕ). lowered (put_num 2 at_nfree (k - 1) c.args.sb.now)) c.get-n.ensures.is
           ∙ e.1;
     }

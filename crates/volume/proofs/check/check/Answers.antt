@@ -15,7 +15,7 @@ returns-in_err-volume g c =
     let room = length c.args.findings.now in
     let p = err_from_is_err_and c.from_residual.result c.from_residual.ensures.1 in
     let s = c.geometry.ensures in
-    let k : Err c.in_err-volume.field-0.0 ≡ may_check held n m.sectors = c.in_err-volume.ensures.answer ∙ ap (λ (z : Sizes). may_check z n m.sectors) (sym s) in
+    let k : Err c.in_err-volume.field-0.0 ≡ may_check held n m.sectors = let e = c.in_err-volume.ensures.answer in cc in
     let a : check_says c.from_residual.result ≡ check_answer m.sectors room (may_check held n m.sectors) = ap check_says (p.1 ∙ ap Err p.2) ∙ ap (check_answer m.sectors room) k in
     record {
       answer = a;
@@ -32,12 +32,12 @@ returns g c =
     let room = length c.args.findings.now in
     let z = sizes_of c.in_ok-volume.volume.sizes in
     let s = c.geometry.ensures in
-    let k : Ok z ≡ may_check held n m.sectors = c.in_ok-volume.ensures.answer ∙ ap (λ (y : Sizes). may_check y n m.sectors) (sym s) in
+    let k : Ok z ≡ may_check held n m.sectors = let e = c.in_ok-volume.ensures.answer in cc in
     let v = c.in_ok-volume.ensures.room.0 in
-    let a : judged c.run_check.result ≡ check_answer m.sectors room (may_check held n m.sectors) = ap judged (rw v at c.run_check.ensures.answer) ∙ ap (check_answer m.sectors room) k in
+    let a : judged c.run_check.result ≡ check_answer m.sectors room (may_check held n m.sectors) = rw (rw v at c.run_check.ensures.answer, sym k) in
     record {
       answer = a;
-      scratch = (rw v at c.run_check.ensures.scratch) ∙ ap (λ (r : Result Sizes Fault). scratch_after m.sectors r c.args.scratch.now) k;
-      findings = (rw v at c.run_check.ensures.findings) ∙ ap (λ (r : Result Sizes Fault). findings_after m.sectors r c.args.findings.now) k;
+      scratch = rw (sym k) (rw v at c.run_check.ensures.scratch);
+      findings = rw (sym k) (rw v at c.run_check.ensures.findings);
       runs = check_carries held n room m (judged c.run_check.result) a;
     }

@@ -1,8 +1,9 @@
-use Rattle.std.proofs.Common.{◌≡◌, ℕ, ◌-◌, List, [], ◌∷◌, ◌++◌, length, ap, ◌∙◌, arith}
+use Rattle.std.proofs.Common.{◌≡◌, ℕ, ◌-◌, List, [], ◌∷◌, ◌++◌, ◌∙◌, arith}
 use Rattle.disk.specs.Medium.{Medium, Write, ran}
-use Rattle.disk.proofs.Writes.{length_ran, ran_append}
+use Rattle.disk.proofs.Writes.{ran_append}
 use Rattle.format.specs.Layout.{first_list_block, superblock}
 use Rattle.rules.specs.Make.{list_writes, root_block, new_list, make_writes}
+use Rattle.volume.proofs.Made.{same_length}
 use Rattle.volume.proofs.make.lay_volume.Goals as goal
 
 joined : (i f : ℕ) (m m₁ m₂ m₃ : Medium) → m₁ ≡ ran (list_writes i (i - first_list_block)) m → m₂ ≡ ran ((i, root_block) ∷ []) m₁
@@ -14,9 +15,6 @@ joined i f m m₁ m₂ m₃ p q r =
     let F : List Write = (new_list i f).0 ++ ((superblock, (new_list i f).1) ∷ []) in
     let a : m₃ ≡ ran F (ran R (ran L m)) = cc in
     a ∙ ran_append R F (ran L m) ∙ ran_append L (R ++ F) m
-
-same_length : (W : List Write) (m m₁ : Medium) → m₁ ≡ ran W m → length m₁.sectors ≡ length m.sectors
-same_length W m m₁ e = ap (λ (x : Medium). length x.sectors) e ∙ length_ran W m
 
 pub write_root-requires : goal.write_root-requires
 write_root-requires g c =

@@ -1,11 +1,12 @@
 use Rattle.std.proofs.Common.{◌≡◌, ℕ, ◌+◌, ◌-◌, List, [], ◌∷◌, length, ap, ◌∙◌, arith, rules}
-use Rattle.disk.specs.Medium.{Medium, ran}
-use Rattle.disk.proofs.Writes.{length_ran, ran_append}
+use Rattle.disk.specs.Medium.{ran}
+use Rattle.disk.proofs.Writes.{ran_append}
 use Rattle.format.specs.Layout.{block_bytes, superblock}
 use Rattle.format.specs.Superblock.{nfree_of}
 use Rattle.freelist.specs.Bytes.{emptied, gave_all, unclaimed}
 use Rattle.freelist.proofs.Stands.{emptied_count}
 use Rattle.rules.specs.Make.{bare_superblock, new_list}
+use Rattle.volume.proofs.Made.{same_length}
 use Rattle.volume.proofs.make.write_free_list.Goals as goal
 
 pub give_unclaimed-requires : goal.give_unclaimed-requires
@@ -24,8 +25,7 @@ put-requires g c =
     let b = c.args.sizes.bounds in
     let w = c.give_unclaimed.ensures.wrote in
     let V = (gave_all (unclaimed [] (c.isize.result + 1) (c.fsize.result - (c.isize.result + 1))) c.empty_list.new.sb).0 in
-    let n : length (g.D.Disk.medium c.give_unclaimed.new.d).sectors ≡ length (g.D.Disk.medium c.args.d.now).sectors =
-    ap (λ (m : Medium). length m.sectors) w ∙ length_ran V (g.D.Disk.medium c.args.d.now) in
+    let n = same_length V (g.D.Disk.medium c.args.d.now) (g.D.Disk.medium c.give_unclaimed.new.d) w in
     omega arith
 
 new_list_is : (i f : ℕ) (s : List ℕ) → s ≡ emptied (bare_superblock i f) → gave_all (unclaimed [] (i + 1) (f - (i + 1))) s ≡ new_list i f

@@ -1,8 +1,9 @@
-use Rattle.std.proofs.Common.{◌≡◌, ◌+◌, [], ◌∷◌, length, sym, ap, ◌∙◌, add-one, arith}
-use Rattle.disk.specs.Medium.{Medium, ran}
-use Rattle.disk.proofs.Writes.{length_ran, ran_append, ran_none}
+use Rattle.std.proofs.Common.{◌≡◌, ◌+◌, [], ◌∷◌, sym, ◌∙◌, add-one, arith}
+use Rattle.disk.specs.Medium.{ran}
+use Rattle.disk.proofs.Writes.{ran_append, ran_none}
 use Rattle.format.specs.Layout.{first_list_block}
 use Rattle.rules.specs.Make.{list_block, list_writes}
+use Rattle.volume.proofs.Made.{same_length}
 use Rattle.volume.proofs.make.write_list.Goals as goal
 
 pub loop-n-init : goal.loop-n-init
@@ -13,8 +14,7 @@ pub put-requires : goal.put-requires
 put-requires g c =
     let i = c.isize-isize.ensures in
     let b = c.args.sizes.bounds in
-    let e : length (g.D.Disk.medium c.loop-n.d).sectors ≡ length (g.D.Disk.medium c.args.d.now).sectors =
-    ap (λ (m : Medium). length m.sectors) c.loop-n.invariant ∙ length_ran (list_writes c.isize-isize.result c.loop-n.n) (g.D.Disk.medium c.args.d.now) in
+    let e = same_length (list_writes c.isize-isize.result c.loop-n.n) (g.D.Disk.medium c.args.d.now) (g.D.Disk.medium c.loop-n.d) c.loop-n.invariant in
     omega arith
 
 pub loop-n-preserved : goal.loop-n-preserved

@@ -9,7 +9,7 @@ returns-then-self-lt-SLOTS-clause-left g c = λ s.
     let v = c.args.volume.now in
     let f = c.args.self.now in
     let h = c.in_default.ensures in
-    let a = rw (c.part.ensures, c.new.ensures) at c.get-address.ensures in
+    let a = rw (c.part.ensures, c.new.ensures) at c.get-address.ensures.is in
     ap (λ (x : Scan). files_from v f.inode (slots_from v.sectors v.sizes.isize v.sizes.fsize f.node f.inode f.slot x)) (h.left v f.at s)
     ∙ slot_further v f.node f.inode f.slot s c.next.new.self _ _ h.ready c.if-self-lt-SLOTS.true c.saturating_sub.ensures a
 

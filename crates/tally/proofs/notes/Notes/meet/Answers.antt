@@ -8,8 +8,8 @@ pub returns-then-not-contains : goal.returns-then-not-contains
 returns-then-not-contains g c =
     let s = c.args.self.now in
     let w = c.args.claim in
-    let z = c.sizes-sizes.ensures in
-    let d = within s.volume.now.sizes.isize s.volume.now.sizes.fsize c.args.address _ _ _ (c.isize.ensures ∙ z.isize) (c.fsize.ensures ∙ z.fsize) c.if-not-contains.ensures.value in
+    let z = c.sizes.ensures in
+    let d = within s.volume.now.sizes.isize s.volume.now.sizes.fsize c.args.address _ _ _ (c.data_blocks.ensures.start ∙ z.isize) (c.data_blocks.ensures.end ∙ z.fsize) c.if-not-contains.ensures.value in
     let o = opens_bad _ _ c.args.address s.codes.now d in
     let t = met_bad _ _ (code_of_claim w.by) (bad_of w.by) (again_of w.by) w.place c.args.address (scan_of s) d in
     search rules
@@ -18,8 +18,8 @@ pub returns-then-is_some : goal.returns-then-is_some
 returns-then-is_some g c =
     let s = c.args.self.now in
     let w = c.args.claim in
-    let z = c.sizes-sizes.ensures in
-    let d = within s.volume.now.sizes.isize s.volume.now.sizes.fsize c.args.address _ _ _ (c.isize.ensures ∙ z.isize) (c.fsize.ensures ∙ z.fsize) c.if-not-contains.ensures.value in
+    let z = c.sizes.ensures in
+    let d = within s.volume.now.sizes.isize s.volume.now.sizes.fsize c.args.address _ _ _ (c.data_blocks.ensures.start ∙ z.isize) (c.data_blocks.ensures.end ∙ z.fsize) c.if-not-contains.ensures.value in
     let n : get_or s.codes.now c.args.address 0 ≡ 0 → ⊥ = claimed _ (search rules) in
     let o = opens_again s.volume.now.sizes.isize s.volume.now.sizes.fsize c.args.address s.codes.now n in
     let t = met_again _ _ (code_of_claim w.by) (bad_of w.by) (again_of w.by) w.place c.args.address (scan_of s) d n in
@@ -29,8 +29,8 @@ pub returns : goal.returns
 returns g c =
     let s = c.args.self.now in
     let w = c.args.claim in
-    let z = c.sizes-sizes.ensures in
-    let d = within s.volume.now.sizes.isize s.volume.now.sizes.fsize c.args.address _ _ _ (c.isize.ensures ∙ z.isize) (c.fsize.ensures ∙ z.fsize) c.if-not-contains.ensures.value in
+    let z = c.sizes.ensures in
+    let d = within s.volume.now.sizes.isize s.volume.now.sizes.fsize c.args.address _ _ _ (c.data_blocks.ensures.start ∙ z.isize) (c.data_blocks.ensures.end ∙ z.fsize) c.if-not-contains.ensures.value in
     let n : get_or s.codes.now c.args.address 0 ≡ 0 = not_claimed _ (search rules) in
     let o = opens_is _ _ c.args.address s.codes.now d n in
     let t = met_is _ _ (code_of_claim w.by) (bad_of w.by) (again_of w.by) w.place c.args.address (scan_of s) d n in
