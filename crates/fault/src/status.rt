@@ -63,6 +63,15 @@ impl From<Status> for u8 {
     }
 }
 
+// The status that a byte means, whatever the byte.
+impl From<u8> for Status {
+    ghost from_gives = { λ n s. s ≡ n };
+
+    fn from(bits: u8) -> Status {
+        Status { bits }
+    }
+}
+
 // Two digits in upper case.
 impl fmt::Display for Status {
     fn fmt<W: fmt::Write>(&self, f: &mut fmt::Formatter<W>) -> fmt::Result {

@@ -27,7 +27,7 @@ pub trait Number: Copy {
 
     ghost narrow: { (f : Self) → width_of f ≤ 4 };
 
-    final fn get(self, block: &Block) -> u32
+    fn get(self, block: &Block) -> u32
         requires { IsThere self }
         ensures is { result ≡ num (width_of self) (at_of self) block.now }
         ensures fits { result < 256 ^ width_of self }
@@ -35,7 +35,7 @@ pub trait Number: Copy {
         fields::get(block, self.at(), self.width())
     }
 
-    final fn put(self, block: &mut Block, v: u32)
+    fn put(self, block: &mut Block, v: u32)
         requires there { IsThere self }
         requires small { v < 256 ^ width_of self }
         ensures { block.new ≡ put_num (width_of self) (at_of self) v block.old }

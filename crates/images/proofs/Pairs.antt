@@ -1,10 +1,13 @@
 -- Pairs of bytes exchanged, in one sector and in a whole image.
-use Rattle.std.proofs.Common.{◌≡◌, ℕ, zero, suc, ◌+◌, ◌*◌, ◌/◌, ◌<◌, List, [], ◌∷◌, map, length, get_or, take, drop, set, sym, refl, ap, ◌∙◌, add-one, arith}
+use Rattle.std.proofs.Common.{◌≡◌, ℕ, zero, suc, ◌+◌, ◌*◌, ◌/◌, ◌<◌, Bool, true, false, cond, List, [], ◌∷◌, map, length, get_or, take, drop, set, sym, refl, ap, ◌∙◌, add-one, arith}
 use Rattle.std.specs.List.{swap}
 use Rattle.std.proofs.lemmas.List.Edits.{swap_is}
-use Rattle.disk.specs.Medium.{Sectors, endless, sector_bytes}
+use Rattle.std.proofs.lemmas.List.{length-map, get_or-map, map-set}
+use Rattle.disk.specs.Medium.{Medium, Sectors, Sized, Power, endless, left, sector_bytes, ran}
+use Rattle.disk.specs.Disks.{serves}
+use Rattle.disk.proofs.Writes.{ran_one, written, spend}
 use Rattle.images.specs.Images.{sectors_of, swapped, DumpLaw}
-use Rattle.images.specs.Orders.{length_swapped}
+use Rattle.images.specs.Orders.{length_swapped, swapped_twice}
 
 -- the first i pairs exchanged
 unfoldable pub pairs : ℕ → List ℕ → List ℕ
@@ -39,11 +42,15 @@ pairs_next (suc i) (a ∷ b ∷ r) h =
     let f : 2 * suc i + 1 ≡ suc (suc (2 * i + 1)) = omega arith in
     rw (f, e) (ap (λ (t : List ℕ). b ∷ a ∷ t) (pairs_next i r (omega arith)))
 
+pub pairs_after : (i : ℕ) (x : List ℕ) → 2 * i + 1 < length x
+    → pairs (i + 1) x ≡ set (set (pairs i x) (2 * i) (get_or (pairs i x) (2 * i + 1) 0)) (2 * i + 1) (get_or (pairs i x) (2 * i) 0)
+pairs_after i x h = rw (add-one i) (pairs_next i x h)
+
 pub pairs_more : (i : ℕ) (x y : List ℕ) → 2 * i + 1 < length y → length y ≡ length x → y ≡ pairs i x → swap y (2 * i) (2 * i + 1) ≡ pairs (i + 1) x
 pairs_more i x y h l e =
     sym (swap_is y (2 * i) (2 * i + 1) 0 (omega arith) h)
     ∙ ap (λ (z : List ℕ). set (set z (2 * i) (get_or z (2 * i + 1) 0)) (2 * i + 1) (get_or z (2 * i) 0)) e
-    ∙ sym (pairs_next i x (omega arith)) ∙ ap (λ (k : ℕ). pairs k x) (sym (add-one i))
+    ∙ sym (pairs_after i x (omega arith))
 
 -- The dump is the image of the exchanged bytes.
 take_swapped : (k : ℕ) (x : List ℕ) → take (2 * k) (swapped x) ≡ swapped (take (2 * k) x)
@@ -73,3 +80,44 @@ dump_law bs =
     let e = swapped_sectors (length bs / sector_bytes) bs in
     let f : sectors_of (length bs / sector_bytes) (swapped bs) ≡ sectors_of (length (swapped bs) / sector_bytes) (swapped bs) = rw (length_swapped bs) in
     ap (λ (T : Sectors). record { sectors = T; power = endless }) (e ∙ f)
+
+-- The pairs of every sector exchanged, whatever the power.
+abbrev pub mirrored : Medium → Medium
+mirrored m = record { sectors = map swapped m.sectors; power = m.power }
+
+pub length_mirrored : (m : Medium) → length (mirrored m).sectors ≡ length m.sectors
+length_mirrored m = length-map m.sectors swapped
+
+pub sized_mirrored : (m : Medium) → Sized m.sectors → Sized (mirrored m).sectors
+sized_mirrored m h k l =
+    let i : k < length m.sectors = rw (length_mirrored m) at l in
+    ap length (get_or-map swapped m.sectors k [] [] i) ∙ length_swapped (get_or m.sectors k []) ∙ h k i
+
+written_mirrored : (p : Power) (S : Sectors) (s : ℕ) (b : List ℕ) → map swapped (written p S s (swapped b)) ≡ written p (map swapped S) s b
+written_mirrored endless S s b = map-set swapped S s (swapped b) ∙ ap (λ (x : List ℕ). set (map swapped S) s x) (swapped_twice b)
+written_mirrored (left zero) S s b = refl
+written_mirrored (left (suc n)) S s b = map-set swapped S s (swapped b) ∙ ap (λ (x : List ℕ). set (map swapped S) s x) (swapped_twice b)
+
+ran_mirrored : (m : Medium) (s : ℕ) (b : List ℕ) → mirrored (ran ((s, swapped b) ∷ []) m) ≡ ran ((s, b) ∷ []) (mirrored m)
+ran_mirrored m s b =
+    ap mirrored (ran_one s (swapped b) m)
+    ∙ ap (λ (T : Sectors). record { sectors = T; power = spend m.power }) (written_mirrored m.power m.sectors s b)
+    ∙ sym (ran_one s b (mirrored m))
+
+-- what a served read gives
+pub read_mirrored : (m : Medium) (len s : ℕ) (buf last out : List ℕ) → serves len s (length m.sectors) ≡ true → s < length m.sectors
+    → last ≡ cond (serves len s (length m.sectors)) (get_or m.sectors s []) buf → out ≡ swapped last
+    → out ≡ cond (serves len s (length (mirrored m).sectors)) (get_or (mirrored m).sectors s []) buf
+read_mirrored m len s buf last out t l r o =
+    let u : serves len s (length (map swapped m.sectors)) ≡ true = ap (serves len s) (length_mirrored m) ∙ t in
+    rw u (o ∙ ap swapped (rw t at r) ∙ sym (get_or-map swapped m.sectors s [] [] l))
+
+-- what a write of exchanged bytes leaves
+pub write_mirrored : (m : Medium) (len s : ℕ) (b c : List ℕ) (end : Medium) → c ≡ swapped b
+    → end ≡ cond (serves len s (length m.sectors)) (ran ((s, c) ∷ []) m) m
+    → mirrored end ≡ cond (serves len s (length (mirrored m).sectors)) (ran ((s, b) ∷ []) (mirrored m)) (mirrored m)
+write_mirrored m len s b c end e w = rw (length_mirrored m, w, e) (either (serves len s (length m.sectors)))
+  where
+    either : (f : Bool) → mirrored (cond f (ran ((s, swapped b) ∷ []) m) m) ≡ cond f (ran ((s, b) ∷ []) (mirrored m)) (mirrored m)
+    either true = ran_mirrored m s b
+    either false = refl

@@ -24,7 +24,7 @@ length_swapped [] = refl
 length_swapped (a ∷ []) = refl
 length_swapped (a ∷ b ∷ r) = ap (λ (n : ℕ). suc (suc n)) (length_swapped r)
 
-swapped_twice : (x : List ℕ) → swapped (swapped x) ≡ x
+pub swapped_twice : (x : List ℕ) → swapped (swapped x) ≡ x
 unfolding swapped
 swapped_twice [] = refl
 swapped_twice (a ∷ []) = refl

@@ -1,5 +1,5 @@
 -- Where a forwarder keeps sectors, and what one call on it does.
-use Rattle.std.proofs.Common.{◌≡◌, ℕ, zero, suc, ◌+◌, ◌-◌, ◌<◌, ◌≤◌, Bool, true, false, not, ◌==◌, cond, ltb, leb, ◌≢◌, ◌⊎◌, Option, Some, None, List, [], ◌∷◌, length, get_or, set, sym, refl, ap, ◌∙◌, inl, inr, ⊎_elim, arith, length-set, get_or-set_other, get_or-set_same, ltb-true, le-ltb, lt-ltb, eq-eqb, ne_eqb}
+use Rattle.std.proofs.Common.{◌≡◌, ℕ, zero, suc, ◌+◌, ◌-◌, ◌<◌, ◌≤◌, Bool, true, false, not, ◌==◌, cond, ltb, leb, ◌≢◌, ◌⊎◌, Option, Some, None, List, [], ◌∷◌, length, get_or, set, sym, refl, ap, ◌∙◌, inl, inr, ⊎_elim, arith, length-set, get_or-set_other, get_or-set_same, ltb-true, le-ltb, lt-ltb, eq-eqb, ne_eqb, leb-true}
 use Rattle.std.specs.Option.{MatchOption}
 use Rattle.std.specs.List.{list_any, AllWithin, HoldsAt}
 use Rattle.std.proofs.lemmas.Bool.{cases_eq, cases_Bool}
@@ -193,6 +193,14 @@ lawful_new count ws h = last (leb (length ws) most_worn) (leb (length ws) count)
     last true true d e = e
     last true false d e = cc
     last false b d e = cc
+
+-- lawful numbers are few
+pub lawful_few : (count : ℕ) (ws : List ℕ) → is_lawful count ws ≡ true → length ws ≤ most_worn
+lawful_few count ws h = leb-true (length ws) most_worn (first (leb (length ws) most_worn) (leb (length ws) count) (all_new (count - length ws) ws) h)
+  where
+    first : (a b d : Bool) → cond a (cond b d false) false ≡ true → a ≡ true
+    first true b d e = refl
+    first false b d e = cc
 
 pub forward_law : ForwardLaw
 forward_law ws S h =

@@ -1,4 +1,4 @@
-ghost use Rattle.std.specs.Prelude.{◌≡◌, ◌-◌, [], length, if◌then◌else◌, Ok, Err};
+ghost use Rattle.std.specs.Prelude.{◌≡◌, ◌+◌, ◌-◌, ◌^◌, ◌<◌, [], length, if◌then◌else◌, Ok, Err};
 ghost use Rattle.fault.specs.Refusals.{bad_worn};
 ghost use Rattle.piles.specs.Forward.{home, forward, all_new, is_lawful};
 
@@ -21,11 +21,11 @@ pub struct Forwarder<D> {
 }
 
 impl<D: Disk> Forwarder<D> {
-    // Where sector s is kept below: a worn one at the end, in the order in which they were named.
-    fn home_of(&self, s: usize) -> usize
-        ensures { result ≡ home self.now.worn.items (length (D.Disk.medium self.now.below).sectors - length self.now.worn.items) s }
+    // Where sector s of n is kept below: a worn one behind the n, in the order in which they were named. The caller counts the sectors, once for a call.
+    fn home_of(&self, n: usize, s: usize) -> usize
+        requires { n + length self.now.worn.items < 2 ^ 64 }
+        ensures { result ≡ home self.now.worn.items n s }
     {
-        let n = self.below.count().saturating_sub(self.worn.len());
         self.worn
             .iter()
             .position(|&w| w as usize == s)
@@ -41,13 +41,15 @@ impl<D: Disk> Disk for Forwarder<D> {
     }
 
     fn read(&self, s: usize, buf: &mut [u8]) -> Result<(), Fault> {
-        admit(buf.len(), s, self.count())?;
-        self.below.read(self.home_of(s), buf)
+        let n = self.below.count().saturating_sub(self.worn.len());
+        admit(buf.len(), s, n)?;
+        self.below.read(self.home_of(n, s), buf)
     }
 
     fn write(&mut self, s: usize, buf: &[u8]) -> Result<(), Fault> {
-        admit(buf.len(), s, self.count())?;
-        let home = self.home_of(s);
+        let n = self.below.count().saturating_sub(self.worn.len());
+        admit(buf.len(), s, n)?;
+        let home = self.home_of(n, s);
         self.below.write(home, buf)
     }
 }

@@ -11,15 +11,21 @@ decimal_grows n (b ∷ bs) =
     le_trans m (decimal_grows (10 * n + (b - 48)) bs)
 
 -- once too large, always too large
-too_large : (n b : ℕ) (bs : List ℕ) → 2 ^ 32 ≤ 10 * n + (b - 48) → more_digits n (b ∷ bs) ≡ None
-too_large n b bs h =
+pub too_large : (n : ℕ) (bs : List ℕ) → 2 ^ 32 ≤ n → more_digits n bs ≡ None
+too_large n bs h =
+    let e = le-ltb (decimal n bs) (2 ^ 32) (le_trans h (decimal_grows n bs)) in
+    rw e (cond_both (all_digits bs) None None (λ r. r ≡ None) (λ _. refl) (λ _. refl))
+
+-- too large with the next byte
+too_large_next : (n b : ℕ) (bs : List ℕ) → 2 ^ 32 ≤ 10 * n + (b - 48) → more_digits n (b ∷ bs) ≡ None
+too_large_next n b bs h =
     let e = le-ltb (decimal n (b ∷ bs)) (2 ^ 32) (le_trans h (decimal_grows (10 * n + (b - 48)) bs)) in
     rw e (cond_both (all_digits (b ∷ bs)) None None (λ r. r ≡ None) (λ _. refl) (λ _. refl))
 
 -- where the byte at index i makes the number n before it too large, the whole is none
 pub too_large_at : (n : ℕ) (bs : List ℕ) (i : ℕ) (r : Option ℕ) → i < length bs → more_digits n (drop i bs) ≡ r → 2 ^ 32 ≤ 10 * n + (get_or bs i 0 - 48) → None ≡ r
 too_large_at n bs i r lt e h =
-    sym (too_large n (get_or bs i 0) (drop (i + 1) bs) h) ∙ sym (rw add-one (ap (λ (l : List ℕ). more_digits n l) (drop-cons bs i 0 lt))) ∙ e
+    sym (too_large_next n (get_or bs i 0) (drop (i + 1) bs) h) ∙ sym (rw add-one (ap (λ (l : List ℕ). more_digits n l) (drop-cons bs i 0 lt))) ∙ e
 
 -- where every byte was met, the number before the end is the whole
 pub all_met : (n : ℕ) (bs : List ℕ) (i : ℕ) (r : Option ℕ) → length bs ≤ i → n < 2 ^ 32 → more_digits n (drop i bs) ≡ r → Some n ≡ r

@@ -1,6 +1,7 @@
 ghost use Rattle.std.specs.Prelude.{◌≡◌};
 ghost use Rattle.tally.specs.Claims.{code_of_claim, claimant_of, bad_of, again_of};
 
+use crate::tally;
 use fault::finding::{Finding, Kind};
 use fault::place::Place;
 
@@ -72,6 +73,20 @@ impl Claim {
             kind,
             address,
             place: self.place,
+        }
+    }
+}
+
+// What the claim leaves and notes.
+impl From<Claim> for tally::Claim {
+    ghost from_gives = { λ c r. r ≡ record { code = code_of_claim c.by; bad = bad_of c.by; again = again_of c.by; place = c.place } };
+
+    fn from(claim: Claim) -> tally::Claim {
+        tally::Claim {
+            code: u8::from(claim.by),
+            bad: claim.by.bad(),
+            again: claim.by.again(),
+            place: claim.place,
         }
     }
 }

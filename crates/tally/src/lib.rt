@@ -3,4 +3,6 @@
 
 pub mod census;
 pub mod claim;
+pub mod codes;
 pub mod notes;
+pub mod tally;

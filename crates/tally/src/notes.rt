@@ -3,7 +3,10 @@ ghost use Rattle.verdict.specs.Scan.{note, met, opens};
 ghost use Rattle.verdict.specs.Verdict.{verdict_from};
 ghost use Rattle.tally.specs.Claims.{code_of_claim, bad_of, again_of};
 
-use crate::claim::{Claim, Claimant};
+use crate::census::judge;
+use crate::claim::Claim;
+use crate::codes::{clear_codes, code_of};
+use crate::tally::Tally;
 use disk::disk::Disk;
 use fault::finding::Finding;
 use fault::status::Status;
@@ -37,13 +40,24 @@ impl<'a, D: Disk> Notes<'a, D> {
         ensures codes { result.codes.ghost_name ≡ codes.entry.ghost_name }
         ensures findings { result.findings.ghost_name ≡ findings.entry.ghost_name }
     {
-        codes.fill(0);
+        clear_codes(codes);
+        let Tally { count, status } = Tally::new();
         Notes {
             volume,
             codes,
             findings,
-            count: 0,
-            status: Status::CLEAN,
+            count,
+            status,
+        }
+    }
+
+    // The two numbers, apart from what they were counted over.
+    pub fn tally(&self) -> Tally
+        ensures { result ≡ record { count = self.now.count; status = self.now.status } }
+    {
+        Tally {
+            count: self.count,
+            status: self.status,
         }
     }
 
@@ -54,13 +68,10 @@ impl<'a, D: Disk> Notes<'a, D> {
         ensures count { self.new.count ≡ self.old.count + 1 }
         ensures same { SameLists self.old self.new }
     {
-        // An index: after `get_mut` the list that both arms leave is not told apart, and the clause on it stays open.
-        let at = self.count as usize;
-        if at < self.findings.len() {
-            self.findings[at] = finding;
-        }
-        self.count += 1;
-        self.status = self.status.with(finding.kind.bit());
+        let mut tally = self.tally();
+        tally.note(self.findings, finding);
+        self.count = tally.count;
+        self.status = tally.status;
     }
 
     // The code of a block.
@@ -68,7 +79,7 @@ impl<'a, D: Disk> Notes<'a, D> {
         requires { block < length self.now.codes.now }
         ensures { result ≡ slice_index self.now.codes.now block }
     {
-        self.codes[block as usize]
+        code_of(self.codes, block)
     }
 
     // Claims a data block that nothing has claimed; any other address is a finding. Says whether it claimed: a finding is noted and no error, since the walk goes on.
@@ -80,33 +91,18 @@ impl<'a, D: Disk> Notes<'a, D> {
         ensures count { self.new.count + (if result then 1 else 0) ≡ self.old.count + 1 }
         ensures same { SameLists self.old self.new }
     {
-        if !self.volume.sizes().data_blocks().contains(&address) {
-            self.note(claim.finding(claim.by.bad(), address));
-            return false;
-        }
-        if Claimant::of(self.code(address)).is_some() {
-            self.note(claim.finding(claim.by.again(), address));
-            return false;
-        }
-        self.codes[address as usize] = u8::from(claim.by);
-        true
+        let sizes = self.volume.sizes();
+        let mut tally = self.tally();
+        let claimed = tally.meet(sizes, self.codes, self.findings, claim.into(), address);
+        self.count = tally.count;
+        self.status = tally.status;
+        claimed
     }
 
     // The verdict.
     pub fn judge(&self, census: Census) -> Verdict
         ensures { result ≡ verdict_from self.now.status self.now.count census (length self.now.findings.now) }
     {
-        let mut status = self.status;
-        if census.missing > 0 {
-            status = status.with(Status::BLOCKS_MISSING);
-        }
-        if self.count as usize > self.findings.len() {
-            status = status.with(Status::NOT_ALL_SHOWN);
-        }
-        Verdict {
-            status,
-            census,
-            findings: self.count,
-        }
+        judge(self.tally(), census, self.findings.len())
     }
 }

@@ -1,6 +1,6 @@
 ghost use Rattle.std.specs.Prelude.{◌≡◌, ◌≤◌, [], length, IfOk, OnOk, slice_index_or};
 ghost use Rattle.format.specs.Layout.{superblock};
-ghost use Rattle.rules.specs.Calls.{may_check, check_answer, scratch_after, findings_after};
+ghost use Rattle.rules.specs.Calls.{same_sizes, may_check, check_answer, scratch_after, findings_after};
 ghost use Rattle.rules.specs.Runs.{check as check_call};
 ghost use Rattle.rules.specs.Promises.{CarriesOn};
 ghost use Rattle.volume.specs.Answers.{looked_up, check_says, sizes_of};
@@ -17,6 +17,13 @@ use format::layout::{BLOCK_BYTES, Block};
 use format::on_disk::OnDisk;
 use verdict::verdict::Verdict;
 
+// Both sizes are those of the other.
+fn same_sizes(a: Geometry, b: Geometry) -> bool
+    ensures { result ≡ same_sizes (sizes_of a) (sizes_of b) }
+{
+    a == b
+}
+
 // The tests before a check of the volume held, in their order: 5, 7, 8, 3. The superblock is left in sb.
 pub(crate) fn may_check<'d, D: Disk>(
     d: &'d D,
@@ -29,7 +36,7 @@ pub(crate) fn may_check<'d, D: Disk>(
     ensures buffer { OnOk result (sb.new ≡ slice_index_or (D.Disk.medium d.now).sectors superblock []) }
 {
     let volume = look_up(d, sb)?;
-    if volume.sizes() != held {
+    if !same_sizes(volume.sizes(), held) {
         return Err(Fault::from(Refusal::OtherSizes));
     }
     if scratch < held.fsize() as usize {
